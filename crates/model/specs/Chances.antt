@@ -1,0 +1,67 @@
+-- A row of chances in general: the chances of 0 to n defaults, as numerators over one denominator. Tails, mean and tranche losses are defined for
+-- any such row, whatever model it comes from.
+-- Assumes nothing.
+use Prim.Native.Nat.{ℕ, suc, _+_, _*_, _-_, _<_, min}
+use mathlib.Core.Path.{_≡_}
+use native.Mathlib.Nat.{mul-pos}
+use lib.IntN.{ℤ, pos, negsuc, _-ℤ_}
+use Rattle.model.specs.Number.{sum}
+use Rattle.model.specs.Fraction.{Fraction, complement}
+
+pub record Chances : Type 0 where
+  -- n
+  pub assets : ℕ
+  -- The chance of j defaults is numerator j over the denominator, for j from 0 to n.
+  pub numerator : ℕ → ℕ
+  pub denominator : ℕ
+  pub positive : 0 < denominator
+
+-- The chances add to one.
+abbrev pub Complete : Chances → Type 0
+Complete r = sum (suc (r .assets)) (r .numerator) ≡ r .denominator
+
+-- x over the row's denominator.
+unfoldable pub share : Chances → ℕ → Fraction
+share r x = record { num = x; den = r .denominator; positive = r .positive }
+
+-- The chance of j defaults.
+unfoldable pub chance : Chances → ℕ → Fraction
+chance r j = share r (r .numerator j)
+
+-- The tail at k: the chance of k or more defaults, over the row's denominator.
+unfoldable pub tailNumerator : Chances → ℕ → ℕ
+tailNumerator r k = sum (suc (r .assets) - k) (λ i. r .numerator (k + i))
+
+unfoldable pub tail : Chances → ℕ → Fraction
+tail r k = share r (tailNumerator r k)
+
+-- The mean number of defaults: the sum over j of j times the chance of j defaults.
+unfoldable pub mean : Chances → Fraction
+mean r = share r (sum (suc (r .assets)) (λ j. j * r .numerator j))
+
+-- The sum of the tails at 1 to n.
+unfoldable pub tailsTotal : Chances → Fraction
+tailsTotal r = share r (sum (r .assets) (λ i. tailNumerator r (suc i)))
+
+-- x, but `most` if x is above it.
+unfoldable pub cut : ℕ → ℤ → ℤ
+cut most (pos x) = pos (min x most)
+cut most (negsuc x) = negsuc x
+
+-- x, but 0 if x is below 0.
+unfoldable pub raise : ℤ → ℕ
+raise (pos x) = x
+raise (negsuc x) = 0
+
+-- The loss units of X defaults among n assets, for recovery R and a tranche from A to B, in basis points:
+-- X × (10,000 − R) − A × n, cut to (B − A) × n if above, then raised to 0 if below 0.
+unfoldable pub units : (n R A B X : ℕ) → ℕ
+units n R A B X = raise (cut ((B - A) * n) (pos (X * complement R) -ℤ pos (A * n)))
+
+-- The expected loss of the tranche: the sum over X of chance times units, divided by (B − A) × n.
+unfoldable pub expectedLoss : (r : Chances) (R A B : ℕ) → 0 < (B - A) * r .assets → Fraction
+expectedLoss r R A B wide = record
+  { num = sum (suc (r .assets)) (λ X. r .numerator X * units (r .assets) R A B X)
+  ; den = r .denominator * ((B - A) * r .assets)
+  ; positive = mul-pos (r .positive) wide
+  }

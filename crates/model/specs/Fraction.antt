@@ -1,0 +1,48 @@
+-- Fractions in whole numbers, and basis points.
+-- Assumes nothing.
+use Prim.Native.Nat.{ℕ, _+_, _*_, _-_, _^_, _≤_, _<_}
+use mathlib.Core.Path.{_≡_}
+use native.Mathlib.Nat.{add-sub-of-le, mul-pos, one-le-pow}
+use lib.Dec.{lit<}
+
+-- A whole numerator over a whole denominator above zero. A fraction is never reduced: two are compared by cross products.
+pub record Fraction : Type 0 where
+  pub num : ℕ
+  pub den : ℕ
+  pub positive : 0 < den
+
+-- x = y
+abbrev pub Same : Fraction → Fraction → Type 0
+Same x y = x .num * y .den ≡ y .num * x .den
+
+-- x ≤ y
+abbrev pub AtMost : Fraction → Fraction → Type 0
+AtMost x y = x .num * y .den ≤ y .num * x .den
+
+-- x + y
+unfoldable pub plus : Fraction → Fraction → Fraction
+plus x y = record
+  { num = x .num * y .den + y .num * x .den
+  ; den = x .den * y .den
+  ; positive = mul-pos (x .positive) (y .positive)
+  }
+
+-- One in basis points.
+unfoldable pub whole : ℕ
+whole = 10000
+
+-- 1 − x, for x in basis points.
+unfoldable pub complement : ℕ → ℕ
+complement x = whole - x
+
+pub complement-law : {x : ℕ} → x ≤ whole → x + complement x ≡ whole
+unfolding complement
+complement-law l = add-sub-of-le l
+
+pub whole-power-positive : (t : ℕ) → 0 < whole ^ t
+unfolding whole
+whole-power-positive t = one-le-pow t whole (lit< tt)
+
+-- n / 10,000^t
+unfoldable pub over : ℕ → ℕ → Fraction
+over n t = record { num = n; den = whole ^ t; positive = whole-power-positive t }

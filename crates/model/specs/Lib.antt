@@ -1,0 +1,5 @@
+pub mod Number
+pub mod Fraction
+pub mod Passes
+pub mod Chances
+pub mod CorrelatedBinomial

@@ -1,0 +1,45 @@
+-- Finite sums, binomial counts, binomial and alternating sums, triangle numbers.
+-- Assumes nothing.
+use Prim.Native.Nat.{ℕ, zero, suc, _+_, _*_}
+use lib.IntN.{ℤ, pos, negℤ, _+ℤ_}
+pub mod Laws
+pub mod Splitting
+
+-- The sum of the first n terms: f 0 + f 1 + … + f (n − 1).
+unfoldable pub sum : ℕ → (ℕ → ℕ) → ℕ
+sum zero f = 0
+sum (suc n) f = sum n f + f n
+
+-- C(n,i), n over i: the ways to choose i of n things, by Pascal's rule. `choose-factorial` shows that it is n!/(i!(n−i)!).
+unfoldable pub choose : ℕ → ℕ → ℕ
+choose n zero = 1
+choose zero (suc i) = 0
+choose (suc n) (suc i) = choose n i + choose n (suc i)
+
+-- n!
+unfoldable pub factorial : ℕ → ℕ
+factorial zero = 1
+factorial (suc n) = factorial n * suc n
+
+-- The sum over i from 0 to d of C(d,i) × h i.
+unfoldable pub binomialSum : ℕ → (ℕ → ℕ) → ℕ
+binomialSum d h = sum (suc d) (λ i. choose d i * h i)
+
+-- `sum` for integers.
+unfoldable pub integerSum : ℕ → (ℕ → ℤ) → ℤ
+integerSum zero f = pos 0
+integerSum (suc n) f = integerSum n f +ℤ f n
+
+-- (−1)^i × x
+unfoldable pub signed : ℕ → ℕ → ℤ
+signed zero x = pos x
+signed (suc i) x = negℤ (signed i x)
+
+-- The sum over i from 0 to d of (−1)^i × C(d,i) × h i.
+unfoldable pub alternatingSum : ℕ → (ℕ → ℕ) → ℤ
+alternatingSum d h = integerSum (suc d) (λ i. signed i (choose d i * h i))
+
+-- T(k) = k(k+1)/2: `triangle-closed`.
+unfoldable pub triangle : ℕ → ℕ
+triangle zero = 0
+triangle (suc k) = triangle k + suc k

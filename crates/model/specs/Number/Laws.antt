@@ -1,0 +1,103 @@
+-- Laws of finite sums, binomial counts and triangle numbers.
+-- Assumes nothing.
+use Prim.Native.Nat.{ℕ, zero, suc, _+_, _*_, _≤_, _<_, suc-le-suc}
+use mathlib.Core.Path.{_≡_, refl, sym, _∙_, ap}
+use native.Mathlib.Nat.{le-step, le-of-suc-le-suc, lt-suc-self, zero-add, suc-add, add-mul, mul-add, mul-le-mul}
+use native.Mathlib.Omega.{arith}
+use Rattle.model.specs.Number.{sum, choose, factorial, triangle, binomialSum}
+
+-- ---- sums
+
+-- Sums of terms that agree are equal.
+pub sum-cong : (n : ℕ) {f g : ℕ → ℕ} → ((i : ℕ) → i < n → f i ≡ g i) → sum n f ≡ sum n g
+unfolding sum
+sum-cong zero h = refl
+sum-cong (suc n) h = omega (arith, sum-cong n (λ i l. h i (le-step l)), h n (lt-suc-self n))
+
+pub sum-mono : (n : ℕ) {f g : ℕ → ℕ} → ((i : ℕ) → i < n → f i ≤ g i) → sum n f ≤ sum n g
+unfolding sum
+sum-mono zero h = omega arith
+sum-mono (suc n) h = omega (arith, sum-mono n (λ i l. h i (le-step l)), h n (lt-suc-self n))
+
+pub sum-plus : (n : ℕ) (f g : ℕ → ℕ) → sum n (λ i. f i + g i) ≡ sum n f + sum n g
+unfolding sum
+sum-plus zero f g = refl
+sum-plus (suc n) f g = omega (arith, sum-plus n f g)
+
+pub sum-times : (n c : ℕ) (f : ℕ → ℕ) → sum n (λ i. c * f i) ≡ c * sum n f
+unfolding sum
+sum-times zero c f = omega arith
+sum-times (suc n) c f = omega (arith, sum-times n c f)
+
+-- The first term apart.
+pub sum-first : (n : ℕ) (f : ℕ → ℕ) → sum (suc n) f ≡ f 0 + sum n (λ i. f (suc i))
+unfolding sum
+sum-first zero f = omega arith
+sum-first (suc n) f = omega (arith, sum-first n f)
+
+-- ---- binomial counts
+
+pub choose-past : (n i : ℕ) → n < i → choose n i ≡ 0
+unfolding choose
+choose-past zero zero l = omega arith
+choose-past (suc n) zero l = omega arith
+choose-past zero (suc i) l = refl
+choose-past (suc n) (suc i) l = omega (arith, choose-past n i (omega arith), choose-past n (suc i) (omega arith))
+
+pub choose-all : (n : ℕ) → choose n n ≡ 1
+unfolding choose
+choose-all zero = refl
+choose-all (suc n) = omega (arith, choose-all n, choose-past n (suc n) (lt-suc-self n))
+
+-- (i+1) · C(n+1,i+1) = (n+1) · C(n,i)
+pub choose-absorb : (n i : ℕ) → suc i * choose (suc n) (suc i) ≡ suc n * choose n i
+unfolding choose
+choose-absorb zero zero = refl
+choose-absorb zero (suc i) = omega arith
+choose-absorb (suc n) zero = omega (arith, choose-absorb n zero)
+choose-absorb (suc n) (suc i) = omega (arith, choose-absorb n i, choose-absorb n (suc i))
+
+-- C(i+j,i) · i! · j! = (i+j)!
+pub choose-factorial : (i j : ℕ) → choose (i + j) i * (factorial i * factorial j) ≡ factorial (i + j)
+unfolding choose factorial
+choose-factorial zero j = rw zero-add (omega arith)
+choose-factorial (suc i) j =
+    rw suc-add
+    (omega (arith, ap (λ z. z * (factorial i * factorial j)) (choose-absorb (i + j) i), ap (λ z. suc (i + j) * z) (choose-factorial i j)))
+
+-- ---- binomial sums
+
+pub binomial-cong : (d : ℕ) {f g : ℕ → ℕ} → ((i : ℕ) → i ≤ d → f i ≡ g i) → binomialSum d f ≡ binomialSum d g
+unfolding binomialSum
+binomial-cong d h = sum-cong (suc d) (λ i l. ap (λ z. choose d i * z) (h i (le-of-suc-le-suc l)))
+
+pub binomial-plus : (d : ℕ) (f g : ℕ → ℕ) → binomialSum d (λ i. f i + g i) ≡ binomialSum d f + binomialSum d g
+unfolding binomialSum
+binomial-plus d f g =
+    sum-cong (suc d) (λ i l. mul-add (choose d i) (f i) (g i)) ∙ sum-plus (suc d) (λ i. choose d i * f i) (λ i. choose d i * g i)
+
+-- Pascal's rule for a whole sum.
+pub pascal : (d : ℕ) (h : ℕ → ℕ) → binomialSum (suc d) h ≡ binomialSum d h + binomialSum d (λ i. h (suc i))
+unfolding binomialSum choose sum
+pascal d h =
+    let rest : ℕ = sum (suc d) (λ i. choose d (suc i) * h (suc i)) in
+    let split : sum (suc d) (λ i. choose (suc d) (suc i) * h (suc i)) ≡ sum (suc d) (λ i. choose d i * h (suc i)) + rest =
+        sum-cong (suc d) (λ i l. add-mul (choose d i) (choose d (suc i)) (h (suc i)))
+        ∙ sum-plus (suc d) (λ i. choose d i * h (suc i)) (λ i. choose d (suc i) * h (suc i)) in
+    omega
+    ( arith
+    , split
+    , sum-first (suc d) (λ i. choose (suc d) i * h i)
+    , sum-first (suc d) (λ i. choose d i * h i)
+    , ap (λ z. z * h (suc d)) (choose-past d (suc d) (lt-suc-self d)))
+
+-- ---- triangle numbers
+
+-- T(k) = k(k+1)/2
+pub triangle-closed : (k : ℕ) → triangle k * 2 ≡ k * suc k
+unfolding triangle
+triangle-closed zero = refl
+triangle-closed (suc k) = omega (arith, triangle-closed k)
+
+pub triangle-mono : {i k : ℕ} → i ≤ k → triangle i ≤ triangle k
+triangle-mono {i} {k} l = omega (arith, triangle-closed i, triangle-closed k, mul-le-mul l (suc-le-suc l))
