@@ -7,6 +7,7 @@ use native.Mathlib.Nat.{mul-pos}
 use lib.IntN.{ℤ, pos, negsuc, _-ℤ_}
 use Rattle.model.specs.Number.{sum}
 use Rattle.model.specs.Fraction.{Fraction, complement}
+pub mod Laws
 
 pub record Chances : Type 0 where
   -- n

@@ -19,6 +19,9 @@ Same x y = x .num * y .den ≡ y .num * x .den
 abbrev pub AtMost : Fraction → Fraction → Type 0
 AtMost x y = x .num * y .den ≤ y .num * x .den
 
+unfoldable pub certainty : Fraction
+certainty = record { num = 1; den = 1; positive = lit< tt }
+
 -- x + y
 unfoldable pub plus : Fraction → Fraction → Fraction
 plus x y = record

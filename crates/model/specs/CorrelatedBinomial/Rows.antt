@@ -84,12 +84,12 @@ module _ (p ρ : ℕ) where
         , ap (λ z. g * (whole * z)) (folded-splits ρ (whole ^ suc k) (rowEntry p ρ (suc k)) (rowEntry p ρ k) d j (λ i l m. row-splits k i (k - i) (omega arith)))
         , ap (λ z. g * row (suc j) * z) (complement-law ρ≤1)))
 
-    scaled-rows-split : (K : ℕ) → Splits K (λ k j. rowEntry p ρ k j * whole ^ (triangle K - triangle k))
+    pub scaled-rows-split : (K : ℕ) → Splits K (λ k j. rowEntry p ρ k j * whole ^ (triangle K - triangle k))
     scaled-rows-split K k j k<K j≤k =
         rw (power-apart k<K)
         (omega (arith, ap (λ z. z * whole ^ (triangle K - triangle (suc k))) (row-splits k j (k - j) (add-sub-of-le j≤k))))
 
-    closed-form : {j k : ℕ} → j ≤ k → closedForm p ρ j k ≡ pos (rowEntry p ρ k j)
+    pub closed-form : {j k : ℕ} → j ≤ k → closedForm p ρ j k ≡ pos (rowEntry p ρ k j)
     unfolding closedForm scaledJoint
     closed-form {j} {k} j≤k =
         let entry : ℕ → ℕ → ℕ = λ n i. rowEntry p ρ n i * whole ^ (triangle k - triangle n) in

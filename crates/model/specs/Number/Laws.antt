@@ -2,7 +2,7 @@
 -- Assumes nothing.
 use Prim.Native.Nat.{ℕ, zero, suc, _+_, _*_, _≤_, _<_, suc-le-suc}
 use mathlib.Core.Path.{_≡_, refl, sym, _∙_, ap}
-use native.Mathlib.Nat.{le-step, le-of-suc-le-suc, lt-suc-self, zero-add, suc-add, add-mul, mul-add, mul-le-mul}
+use native.Mathlib.Nat.{le-step, le-of-suc-le-suc, lt-suc-self, zero-add, suc-add, add-mul, mul-add, mul-left-comm, mul-le-mul}
 use native.Mathlib.Omega.{arith}
 use Rattle.model.specs.Number.{sum, choose, factorial, triangle, binomialSum}
 
@@ -28,6 +28,16 @@ pub sum-times : (n c : ℕ) (f : ℕ → ℕ) → sum n (λ i. c * f i) ≡ c * 
 unfolding sum
 sum-times zero c f = omega arith
 sum-times (suc n) c f = omega (arith, sum-times n c f)
+
+pub sum-const : (n x : ℕ) → sum n (λ i. x) ≡ n * x
+unfolding sum
+sum-const zero x = omega arith
+sum-const (suc n) x = omega (arith, sum-const n x)
+
+-- The last term alone, where the others are zero.
+pub sum-last : (n : ℕ) (f : ℕ → ℕ) → ((i : ℕ) → i < n → f i ≡ 0) → sum (suc n) f ≡ f n
+unfolding sum
+sum-last n f h = omega (arith, sum-cong n {f = f} {g = λ i. 0} h, sum-const n 0)
 
 -- The first term apart.
 pub sum-first : (n : ℕ) (f : ℕ → ℕ) → sum (suc n) f ≡ f 0 + sum n (λ i. f (suc i))
@@ -75,6 +85,11 @@ pub binomial-plus : (d : ℕ) (f g : ℕ → ℕ) → binomialSum d (λ i. f i +
 unfolding binomialSum
 binomial-plus d f g =
     sum-cong (suc d) (λ i l. mul-add (choose d i) (f i) (g i)) ∙ sum-plus (suc d) (λ i. choose d i * f i) (λ i. choose d i * g i)
+
+pub binomial-times : (d c : ℕ) (f : ℕ → ℕ) → binomialSum d (λ i. c * f i) ≡ c * binomialSum d f
+unfolding binomialSum
+binomial-times d c f =
+    sum-cong (suc d) (λ i l. mul-left-comm (choose d i) c (f i)) ∙ sum-times (suc d) c (λ i. choose d i * f i)
 
 -- Pascal's rule for a whole sum.
 pub pascal : (d : ℕ) (h : ℕ → ℕ) → binomialSum (suc d) h ≡ binomialSum d h + binomialSum d (λ i. h (suc i))

@@ -1,0 +1,141 @@
+-- Laws of tails, mean and expected loss, for a row of chances in general.
+-- Assumes nothing.
+use Prim.Native.Nat.{ℕ, zero, suc, _+_, _*_, _-_, _≤_, _<_, min}
+use mathlib.Core.Path.{_≡_, refl, sym, _∙_, ap, ap₂}
+use mathlib.Core.Bool.{Bool, true, false, cond}
+use native.Mathlib.Omega.{arith}
+use native.Mathlib.Decide.{decLe}
+use native.Mathlib.Nat.{add-zero, zero-add, add-suc, suc-add, sub-zero, sub-self, add-sub-of-le, le-refl, le-trans, min-le-right, mul-le-mul-left, mul-le-mul-right}
+use lib.IntN.{pos, negsuc, _-ℤ_}
+use lib.Dec.{ltb}
+use borrow.Author.Tests.{ltb-true}
+use Rattle.model.specs.Number.{sum}
+use Rattle.model.specs.Number.Laws.{sum-cong, sum-mono, sum-plus, sum-times, sum-first, sum-const, sum-last}
+use Rattle.model.specs.Fraction.{Same, AtMost, certainty, complement}
+use Rattle.model.specs.Chances.{Chances, Complete, share, tailNumerator, tail, mean, tailsTotal, cut, raise, units, expectedLoss}
+
+-- ---- tails
+
+module _ (r : Chances) where
+  -- The tail at k is the chance of k defaults plus the tail at k + 1.
+  pub tail-next : {k : ℕ} → k ≤ r .assets → tailNumerator r k ≡ r .numerator k + tailNumerator r (suc k)
+  unfolding tailNumerator
+  tail-next {k} l =
+      let n = r .assets in
+      let c = r .numerator in
+      let here : suc n - k ≡ suc (n - k) = omega arith in
+      let next : suc n - suc k ≡ n - k = omega arith in
+      rw (here, next)
+      (sum-first (n - k) (λ i. c (k + i))
+      ∙ ap₂ _+_ (ap c (add-zero k)) (sum-cong (n - k) (λ i m. ap c (add-suc k i ∙ sym (suc-add k i)))))
+
+  -- There are no more than n defaults.
+  pub tail-past : {k : ℕ} → r .assets < k → tailNumerator r k ≡ 0
+  unfolding tailNumerator sum
+  tail-past {k} l = let none : suc (r .assets) - k ≡ 0 = omega arith in rw none
+
+  tail-step : (k : ℕ) → tailNumerator r (suc k) ≤ tailNumerator r k
+  tail-step k = by-place (decLe k (r .assets))
+    where
+      by-place : Dec (k ≤ r .assets) → tailNumerator r (suc k) ≤ tailNumerator r k
+      by-place (yes l) = omega (arith, tail-next l)
+      by-place (no l) = omega (arith, tail-past {k = suc k} (omega arith))
+
+  tail-steps : (i d : ℕ) → tailNumerator r (i + d) ≤ tailNumerator r i
+  tail-steps i zero = rw (add-zero i) (le-refl (tailNumerator r i))
+  tail-steps i (suc d) = rw (add-suc i d) (le-trans (tail-step (i + d)) (tail-steps i d))
+
+  -- Tails do not grow.
+  pub tail-falls : {i k : ℕ} → i ≤ k → AtMost (tail r k) (tail r i)
+  unfolding tail share
+  tail-falls {i} {k} l = mul-le-mul-right (r .denominator) (rw (add-sub-of-le l) at (tail-steps i (k - i)))
+
+  module _ (complete : Complete r) where
+    whole-tail : tailNumerator r 0 ≡ r .denominator
+    unfolding tailNumerator
+    whole-tail = rw sub-zero (sum-cong (suc (r .assets)) (λ i l. ap (r .numerator) (zero-add i)) ∙ complete)
+
+    pub tail-at-zero : Same (tail r 0) certainty
+    unfolding tail share certainty
+    tail-at-zero = omega (arith, whole-tail)
+
+    pub tail-at-most-one : (k : ℕ) → AtMost (tail r k) certainty
+    unfolding tail share certainty
+    tail-at-most-one k = omega (arith, whole-tail, rw zero-add at (tail-steps 0 k))
+
+-- ---- the mean
+
+-- `tailNumerator` over n and the numerators c.
+tailOf : ℕ → (ℕ → ℕ) → ℕ → ℕ
+tailOf n c k = sum (suc n - k) (λ i. c (k + i))
+
+tailOf-more : (n : ℕ) (c : ℕ → ℕ) {k : ℕ} → k ≤ suc n → tailOf (suc n) c k ≡ tailOf n c k + c (suc n)
+unfolding tailOf sum
+tailOf-more n c {k} l =
+    let more : suc (suc n) - k ≡ suc (suc n - k) = omega arith in
+    rw more (ap (λ z. sum (suc n - k) (λ i. c (k + i)) + c z) (add-sub-of-le l))
+
+tailOf-total : (n : ℕ) (c : ℕ → ℕ) → sum n (λ i. tailOf n c (suc i)) ≡ sum (suc n) (λ j. j * c j)
+unfolding sum
+tailOf-total zero c = omega arith
+tailOf-total (suc n) c =
+    let none : tailOf n c (suc n) ≡ 0 = unfold tailOf in rw (sub-self (suc n)) in
+    omega
+    ( arith
+    , sum-cong (suc n) {f = λ i. tailOf (suc n) c (suc i)} (λ i l. tailOf-more n c l)
+    , sum-plus (suc n) (λ i. tailOf n c (suc i)) (λ i. c (suc n))
+    , sum-const (suc n) (c (suc n))
+    , none
+    , tailOf-total n c)
+
+-- The tails at 1 to n add to the mean.
+pub tails-total : (r : Chances) → Same (tailsTotal r) (mean r)
+unfolding tailsTotal mean share tailNumerator tailOf
+tails-total r = ap (λ z. z * r .denominator) (tailOf-total (r .assets) (r .numerator))
+
+-- ---- loss units
+
+raised-cut : (most a b : ℕ) → raise (cut most (pos a -ℤ pos b)) ≡ min (a - b) most
+unfolding raise cut
+raised-cut most a zero = omega arith
+raised-cut most a (suc b) = by-order (ltb a (suc b)) refl
+  where
+    by-order : (t : Bool) → ltb a (suc b) ≡ t → raise (cut most (cond t (negsuc (suc b - suc a)) (pos (a - suc b)))) ≡ min (a - suc b) most
+    by-order true below = let l : a < suc b = ltb-true a (suc b) below in omega arith
+    by-order false above = refl
+
+-- The units in whole numbers alone.
+pub units-whole : (n R A B X : ℕ) → units n R A B X ≡ min (X * complement R - A * n) ((B - A) * n)
+unfolding units
+units-whole n R A B X = raised-cut ((B - A) * n) (X * complement R) (A * n)
+
+module _ (n R A B : ℕ) where
+  pub units-at-most : (X : ℕ) → units n R A B X ≤ (B - A) * n
+  units-at-most X = rw units-whole (min-le-right (X * complement R - A * n) ((B - A) * n))
+
+  -- More defaults, no fewer units.
+  pub units-grow : {X Y : ℕ} → X ≤ Y → units n R A B X ≤ units n R A B Y
+  units-grow {X} {Y} l = rw (units-whole n R A B X, units-whole n R A B Y) (omega (arith, mul-le-mul-right (complement R) l))
+
+-- ---- expected loss
+
+module _ (r : Chances) (R A B : ℕ) (wide : 0 < (B - A) * r .assets) where
+  pub loss-at-most-one : Complete r → AtMost (expectedLoss r R A B wide) certainty
+  unfolding expectedLoss certainty
+  loss-at-most-one complete =
+      let n = r .assets in
+      let c = r .numerator in
+      let width : ℕ = (B - A) * n in
+      omega
+      ( arith
+      , sum-mono (suc n) {f = λ X. c X * units n R A B X} {g = λ X. width * c X} (λ X l. omega (arith, mul-le-mul-left (c X) (units-at-most n R A B X)))
+      , sum-times (suc n) width c
+      , ap (λ z. width * z) complete)
+
+  -- Where fewer than n defaults have no units, the chance of n defaults alone counts.
+  pub loss-of-last : units (r .assets) R A B (r .assets - 1) ≡ 0 → (expectedLoss r R A B wide) .num ≡ r .numerator (r .assets) * units (r .assets) R A B (r .assets)
+  unfolding expectedLoss
+  loss-of-last none =
+      let n = r .assets in
+      sum-last n (λ X. r .numerator X * units n R A B X)
+      (λ X l. let zero-units : units n R A B X ≡ 0 = omega (arith, units-grow n R A B {X = X} {Y = n - 1} (omega arith)) in rw zero-units (omega arith))
