@@ -2,8 +2,9 @@
 -- Assumes nothing.
 use Prim.Native.Nat.{ℕ, _+_, _*_, _-_, _^_, _≤_, _<_}
 use mathlib.Core.Path.{_≡_}
-use native.Mathlib.Nat.{add-sub-of-le, mul-pos, one-le-pow}
+use native.Mathlib.Nat.{mul-pos, one-le-pow}
 use lib.Dec.{lit<}
+pub mod Laws
 
 -- A whole numerator over a whole denominator above zero. A fraction is never reduced: two are compared by cross products.
 pub record Fraction : Type 0 where
@@ -12,12 +13,12 @@ pub record Fraction : Type 0 where
   pub positive : 0 < den
 
 -- x = y
-abbrev pub Same : Fraction → Fraction → Type 0
-Same x y = x .num * y .den ≡ y .num * x .den
+pub record Same (x y : Fraction) : Type 0 where
+  pub cross : x .num * y .den ≡ y .num * x .den
 
 -- x ≤ y
-abbrev pub AtMost : Fraction → Fraction → Type 0
-AtMost x y = x .num * y .den ≤ y .num * x .den
+pub record AtMost (x y : Fraction) : Type 0 where
+  pub cross : x .num * y .den ≤ y .num * x .den
 
 unfoldable pub certainty : Fraction
 certainty = record { num = 1; den = 1; positive = lit< tt }
@@ -37,10 +38,6 @@ whole = 10000
 -- 1 − x, for x in basis points.
 unfoldable pub complement : ℕ → ℕ
 complement x = whole - x
-
-pub complement-law : {x : ℕ} → x ≤ whole → x + complement x ≡ whole
-unfolding complement
-complement-law l = add-sub-of-le l
 
 pub whole-power-positive : (t : ℕ) → 0 < whole ^ t
 unfolding whole

@@ -48,7 +48,7 @@ module _ (r : Chances) where
   -- Tails do not grow.
   pub tail-falls : {i k : ℕ} → i ≤ k → AtMost (tail r k) (tail r i)
   unfolding tail share
-  tail-falls {i} {k} l = mul-le-mul-right (r .denominator) (rw (add-sub-of-le l) at (tail-steps i (k - i)))
+  tail-falls {i} {k} l = record { cross = mul-le-mul-right (r .denominator) (rw (add-sub-of-le l) at (tail-steps i (k - i))) }
 
   module _ (complete : Complete r) where
     whole-tail : tailNumerator r 0 ≡ r .denominator
@@ -91,7 +91,7 @@ tailOf-total (suc n) c =
 -- The tails at 1 to n add to the mean.
 pub tails-total : (r : Chances) → Same (tailsTotal r) (mean r)
 unfolding tailsTotal mean share tailNumerator tailOf
-tails-total r = ap (λ z. z * r .denominator) (tailOf-total (r .assets) (r .numerator))
+tails-total r = record { cross = ap (λ z. z * r .denominator) (tailOf-total (r .assets) (r .numerator)) }
 
 -- ---- loss units
 

@@ -10,7 +10,8 @@ use lib.IntN.{ℤ, pos}
 use Rattle.model.specs.Number.{triangle, alternatingSum}
 use Rattle.model.specs.Number.Laws.{triangle-mono}
 use Rattle.model.specs.Number.Splitting.{Splits, alternating-of-splits}
-use Rattle.model.specs.Fraction.{whole, complement, complement-law}
+use Rattle.model.specs.Fraction.{whole, complement}
+use Rattle.model.specs.Fraction.Laws.{complement-law}
 use Rattle.model.specs.Passes.{folded}
 use Rattle.model.specs.Passes.Laws.{passed-all}
 use Rattle.model.specs.CorrelatedBinomial.{conditional, joint, scaledJoint, closedForm, passStep, rowEntry}

@@ -106,6 +106,17 @@ pascal d h =
     , sum-first (suc d) (λ i. choose d i * h i)
     , ap (λ z. z * h (suc d)) (choose-past d (suc d) (lt-suc-self d)))
 
+-- The mean of a binomial row of n + 1 places.
+pub binomial-mean : (n : ℕ) (f : ℕ → ℕ) → sum (suc (suc n)) (λ j. j * (choose (suc n) j * f j)) ≡ suc n * binomialSum n (λ i. f (suc i))
+unfolding binomialSum
+binomial-mean n f =
+    sum-first (suc n) (λ j. j * (choose (suc n) j * f j))
+    ∙ omega
+    ( arith
+    , sum-cong (suc n) {f = λ i. suc i * (choose (suc n) (suc i) * f (suc i))} {g = λ i. suc n * (choose n i * f (suc i))}
+        (λ i l. omega (arith, ap (λ z. z * f (suc i)) (choose-absorb n i)))
+    , sum-times (suc n) (suc n) (λ i. choose n i * f (suc i)))
+
 -- ---- triangle numbers
 
 -- T(k) = k(k+1)/2
