@@ -11,6 +11,7 @@ use Rattle.model.specs.Passes.{passed}
 use Rattle.model.specs.Chances.{Chances, raise}
 pub mod Rows
 pub mod Theorems
+pub mod Sheets
 
 -- p_(k+1), the default probability of an asset given that k named others have defaulted, over D^(k+1):
 -- p_1 = p, and p_(k+1) = p_k × (1 − ρ) + ρ.

@@ -52,6 +52,10 @@ module _ (p ρ : ℕ) (p≤1 : p ≤ whole) (ρ≤1 : ρ ≤ whole) where
   unfolding over
   numerator-row l = ap (λ (x : Fraction). x .num) (probability-row l)
 
+  -- P(k,k) = m_k
+  pub probability-last : (k : ℕ) → probability p ρ k k ≡ over (joint p ρ k) (triangle k)
+  probability-last k = probability-row (le-refl k) ∙ ap (λ z. over z (triangle k)) (row-last p ρ k)
+
   -- No P(j,k) is negative: the closed form is the numerator of the fraction.
   pub closed-form-numerator : {j k : ℕ} → j ≤ k → closedForm p ρ j k ≡ pos (probability p ρ j k .num)
   closed-form-numerator l = closed-form p ρ p≤1 ρ≤1 l ∙ ap pos (sym (numerator-row l))

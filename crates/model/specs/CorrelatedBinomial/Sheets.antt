@@ -1,0 +1,111 @@
+-- The sheets worked by hand: one table of figures, each beside the exact definition that gives it, and one claim, that each line holds.
+-- Assumes nothing.
+use Prim.Native.Nat.{ℕ, zero, suc, _*_, _-_, _^_, _<_}
+use mathlib.Core.Path.{_≡_, refl, sym, _∙_, ap}
+use mathlib.Core.Bool.{Bool, true, false, _&&_}
+use mathlib.Core.List.{List, [], _∷_, _++_}
+use native.Mathlib.Nat.{one-le-pow, le-refl, one-mul}
+use native.Mathlib.Omega.{arith}
+use lib.Dec.{T, eqb, eqb→eq, lit<, lit≤}
+use lib.IntN.{_-ℤ_}
+use Rattle.model.specs.Number.{sum, choose, integerSum, signed, alternatingSum, triangle}
+use Rattle.model.specs.Number.Laws.{choose-all}
+use Rattle.model.specs.Fraction.{Fraction, Same, whole, complement, over}
+use Rattle.model.specs.Chances.{share, chance, cut, raise, units, expectedLoss}
+use Rattle.model.specs.Chances.Laws.{loss-of-last}
+use Rattle.model.specs.CorrelatedBinomial.{conditional, joint, scaledJoint, closedForm, probability, defaults}
+use Rattle.model.specs.CorrelatedBinomial.Theorems.{probability-last}
+
+-- A decimal figure: n / 10^places.
+decimal : (n places : ℕ) → Fraction
+decimal n places = record { num = n; den = 10 ^ places; positive = one-le-pow places 10 (lit< tt) }
+
+pub record Line : Type 0 where
+  pub sheet : ℕ
+  -- The value by the definitions, and the figure that the sheet gives.
+  pub exact : Fraction
+  pub figure : Fraction
+
+line : ℕ → Fraction → Fraction → Line
+line s e f = record { sheet = s; exact = e; figure = f }
+
+abbrev pub Every : List Line → Type 0
+Every [] = Unit
+Every (l ∷ ls) = Same (l .exact) (l .figure) × Every ls
+
+-- Sheets 1 to 6 are of the pool T: 3 assets, p = 1000, ρ = 3000. Sheets 4 to 6 have recovery 4000.
+small : List Line
+unfolding defaults
+small =
+    line 1 (over (conditional 1000 3000 1) 2) (decimal 37 2)
+    ∷ line 1 (over (conditional 1000 3000 2) 3) (decimal 559 3)
+    ∷ line 1 (over (joint 1000 3000 3) (triangle 3)) (decimal 20683 6)
+    ∷ line 2 (probability 1000 3000 0 3) (decimal 790317 6)
+    ∷ line 2 (probability 1000 3000 1 3) (decimal 46683 6)
+    ∷ line 2 (probability 1000 3000 2 3) (decimal 16317 6)
+    ∷ line 2 (probability 1000 3000 3 3) (decimal 20683 6)
+    ∷ line 3 (chance (defaults 3 1000 3000) 0) (decimal 790317 6)
+    ∷ line 3 (chance (defaults 3 1000 3000) 1) (decimal 140049 6)
+    ∷ line 3 (chance (defaults 3 1000 3000) 2) (decimal 48951 6)
+    ∷ line 3 (chance (defaults 3 1000 3000) 3) (decimal 20683 6)
+    ∷ line 4 (over (units 3 4000 1000 3000 0) 0) (decimal 0 0)
+    ∷ line 4 (over (units 3 4000 1000 3000 1) 0) (decimal 3000 0)
+    ∷ line 4 (over (units 3 4000 1000 3000 2) 0) (decimal 6000 0)
+    ∷ line 4 (over (units 3 4000 1000 3000 3) 0) (decimal 6000 0)
+    ∷ line 4 (expectedLoss (defaults 3 1000 3000) 4000 1000 3000 (lit< tt)) (decimal 1396585 7)
+    ∷ line 5 (expectedLoss (defaults 3 1000 3000) 4000 0 6000 (lit< tt)) (decimal 1 1)
+    ∷ line 6 (expectedLoss (defaults 3 1000 3000) 4000 6000 10000 (lit< tt)) (decimal 0 0)
+    ∷ line 7 (chance (defaults 2 5000 0) 0) (decimal 25 2)
+    ∷ line 7 (chance (defaults 2 5000 0) 1) (decimal 5 1)
+    ∷ line 7 (chance (defaults 2 5000 0) 2) (decimal 25 2)
+    ∷ line 8 (chance (defaults 2 5000 10000) 0) (decimal 5 1)
+    ∷ line 8 (chance (defaults 2 5000 10000) 1) (decimal 0 0)
+    ∷ line 8 (chance (defaults 2 5000 10000) 2) (decimal 5 1)
+    ∷ line 9 (chance (defaults 1 0 3000) 0) (decimal 1 0)
+    ∷ line 9 (chance (defaults 1 0 3000) 1) (decimal 0 0)
+    ∷ []
+
+large : Line
+unfolding defaults
+large = line 10 (expectedLoss (defaults 64 1 0) 0 9999 10000 (lit< tt)) (decimal 1 256)
+
+pub table : List Line
+table = small ++ (large ∷ [])
+
+-- The two cross products of each line.
+exact-products : List Line → List ℕ
+exact-products [] = []
+exact-products (l ∷ ls) = l .exact .num * l .figure .den ∷ exact-products ls
+
+figure-products : List Line → List ℕ
+figure-products [] = []
+figure-products (l ∷ ls) = l .figure .num * l .exact .den ∷ figure-products ls
+
+by-products : (ls : List Line) → exact-products ls ≡ figure-products ls → Every ls
+unfolding exact-products figure-products
+by-products [] e = tt
+by-products (l ∷ ls) e = (record { cross = cc }, by-products ls (cc))
+
+-- The small lines are computed.
+small-holds : Every small
+unfolding small line exact-products figure-products decimal over triangle whole complement conditional joint scaledJoint closedForm probability defaults choose sum integerSum signed alternatingSum share chance cut raise units expectedLoss
+small-holds = by-products small refl
+
+-- At sheet 10 only the chance of 64 defaults counts, and it is m_64.
+large-numerator : large .exact .num ≡ choose 64 64 * (over (joint 1 0 64) (triangle 64)) .num * 64
+unfolding large line defaults units cut raise complement whole
+large-numerator =
+    loss-of-last (defaults 64 1 0) 0 9999 10000 (lit< tt) refl
+    ∙ ap (λ (x : Fraction). choose 64 64 * x .num * 64) (probability-last 1 0 (lit≤ tt) (lit≤ tt) 64)
+
+large-holds : Same (large .exact) (large .figure)
+unfolding large line decimal over defaults conditional joint complement whole expectedLoss triangle
+large-holds = record { cross = ap (λ z. z * 10 ^ 256) (large-numerator ∙ ap (λ z. z * joint 1 0 64 * 64) (choose-all 64)) }
+
+append : (ls : List Line) (l : Line) → Every ls → Same (l .exact) (l .figure) → Every (ls ++ (l ∷ []))
+append [] l h e = (e, tt)
+append (m ∷ ls) l h e = (h .0, append ls l (h .1) e)
+
+pub sheets : Every table
+unfolding table
+sheets = append small large small-holds large-holds
