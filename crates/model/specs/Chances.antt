@@ -1,11 +1,11 @@
 -- A row of chances in general: the chances of 0 to n defaults, as numerators over one denominator. Tails, mean and tranche losses are defined for
 -- any such row, whatever model it comes from.
 -- Assumes nothing.
-use Prim.Native.Nat.{ℕ, suc, _+_, _*_, _-_, _<_, min}
+use Prim.Native.Nat.{ℕ, suc, _+_, _*_, _-_, _<_}
 use mathlib.Core.Path.{_≡_}
 use native.Mathlib.Nat.{mul-pos}
-use lib.IntN.{ℤ, pos, negsuc, _-ℤ_}
-use Rattle.model.specs.Number.{sum}
+use lib.IntN.{pos, _-ℤ_}
+use Rattle.model.specs.Number.{sum, cut, raise}
 use Rattle.model.specs.Fraction.{Fraction, complement}
 pub mod Laws
 
@@ -44,25 +44,19 @@ mean r = share r (sum (suc (r .assets)) (λ j. j * r .numerator j))
 unfoldable pub tailsTotal : Chances → Fraction
 tailsTotal r = share r (sum (r .assets) (λ i. tailNumerator r (suc i)))
 
--- x, but `most` if x is above it.
-unfoldable pub cut : ℕ → ℤ → ℤ
-cut most (pos x) = pos (min x most)
-cut most (negsuc x) = negsuc x
-
--- x, but 0 if x is below 0.
-unfoldable pub raise : ℤ → ℕ
-raise (pos x) = x
-raise (negsuc x) = 0
-
 -- The loss units of X defaults among n assets, for recovery R and a tranche from A to B, in basis points:
 -- X × (10,000 − R) − A × n, cut to (B − A) × n if above, then raised to 0 if below 0.
-unfoldable pub units : (n R A B X : ℕ) → ℕ
-units n R A B X = raise (cut ((B - A) * n) (pos (X * complement R) -ℤ pos (A * n)))
+unfoldable pub lossUnits : (n R A B X : ℕ) → ℕ
+lossUnits n R A B X = raise (cut ((B - A) * n) (pos (X * complement R) -ℤ pos (A * n)))
 
--- The expected loss of the tranche: the sum over X of chance times units, divided by (B − A) × n.
+-- The sum over X from 0 to m − 1 of chance times loss units, over the row's denominator.
+unfoldable pub lossNumerator : (r : Chances) (R A B m : ℕ) → ℕ
+lossNumerator r R A B m = sum m (λ X. r .numerator X * lossUnits (r .assets) R A B X)
+
+-- The expected loss of the tranche: the sum over X from 0 to n of chance times loss units, divided by (B − A) × n.
 unfoldable pub expectedLoss : (r : Chances) (R A B : ℕ) → 0 < (B - A) * r .assets → Fraction
-expectedLoss r R A B wide = record
-  { num = sum (suc (r .assets)) (λ X. r .numerator X * units (r .assets) R A B X)
-  ; den = r .denominator * ((B - A) * r .assets)
-  ; positive = mul-pos (r .positive) wide
-  }
+expectedLoss r R A B wide = record {
+  num = lossNumerator r R A B (suc (r .assets));
+  den = r .denominator * ((B - A) * r .assets);
+  positive = mul-pos (r .positive) wide;
+}

@@ -25,11 +25,11 @@ certainty = record { num = 1; den = 1; positive = lit< tt }
 
 -- x + y
 unfoldable pub plus : Fraction → Fraction → Fraction
-plus x y = record
-  { num = x .num * y .den + y .num * x .den
-  ; den = x .den * y .den
-  ; positive = mul-pos (x .positive) (y .positive)
-  }
+plus x y = record {
+  num = x .num * y .den + y .num * x .den;
+  den = x .den * y .den;
+  positive = mul-pos (x .positive) (y .positive);
+}
 
 -- One in basis points.
 unfoldable pub whole : ℕ

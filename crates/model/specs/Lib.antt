@@ -3,3 +3,4 @@ pub mod Fraction
 pub mod Passes
 pub mod Chances
 pub mod CorrelatedBinomial
+pub mod Splitting

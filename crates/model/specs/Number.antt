@@ -1,9 +1,8 @@
--- Finite sums, binomial counts, binomial and alternating sums, triangle numbers.
+-- Finite sums, binomial counts, binomial and alternating sums, triangle numbers, limits put to an integer.
 -- Assumes nothing.
-use Prim.Native.Nat.{ℕ, zero, suc, _+_, _*_}
-use lib.IntN.{ℤ, pos, negℤ, _+ℤ_}
+use Prim.Native.Nat.{ℕ, zero, suc, _+_, _*_, min}
+use lib.IntN.{ℤ, pos, negsuc, negℤ, _+ℤ_}
 pub mod Laws
-pub mod Splitting
 
 -- The sum of the first n terms: f 0 + f 1 + … + f (n − 1).
 unfoldable pub sum : ℕ → (ℕ → ℕ) → ℕ
@@ -43,3 +42,13 @@ alternatingSum d h = integerSum (suc d) (λ i. signed i (choose d i * h i))
 unfoldable pub triangle : ℕ → ℕ
 triangle zero = 0
 triangle (suc k) = triangle k + suc k
+
+-- x, but `most` if x is above it.
+unfoldable pub cut : ℕ → ℤ → ℤ
+cut most (pos x) = pos (min x most)
+cut most (negsuc x) = negsuc x
+
+-- x, but 0 if x is below 0.
+unfoldable pub raise : ℤ → ℕ
+raise (pos x) = x
+raise (negsuc x) = 0

@@ -9,10 +9,10 @@ use native.Mathlib.Nat.{add-zero, zero-add, add-suc, suc-add, sub-zero, sub-self
 use lib.IntN.{pos, negsuc, _-ℤ_}
 use lib.Dec.{ltb}
 use borrow.Author.Tests.{ltb-true}
-use Rattle.model.specs.Number.{sum}
+use Rattle.model.specs.Number.{sum, cut, raise}
 use Rattle.model.specs.Number.Laws.{sum-cong, sum-mono, sum-plus, sum-times, sum-first, sum-const, sum-last}
 use Rattle.model.specs.Fraction.{Same, AtMost, certainty, complement}
-use Rattle.model.specs.Chances.{Chances, Complete, share, tailNumerator, tail, mean, tailsTotal, cut, raise, units, expectedLoss}
+use Rattle.model.specs.Chances.{Chances, Complete, share, tailNumerator, tail, mean, tailsTotal, lossUnits, lossNumerator, expectedLoss}
 
 -- ---- tails
 
@@ -80,13 +80,14 @@ unfolding sum
 tailOf-total zero c = omega arith
 tailOf-total (suc n) c =
     let none : tailOf n c (suc n) ≡ 0 = unfold tailOf in rw (sub-self (suc n)) in
-    omega
-    ( arith
-    , sum-cong (suc n) {f = λ i. tailOf (suc n) c (suc i)} (λ i l. tailOf-more n c l)
-    , sum-plus (suc n) (λ i. tailOf n c (suc i)) (λ i. c (suc n))
-    , sum-const (suc n) (c (suc n))
-    , none
-    , tailOf-total n c)
+    omega (
+      arith,
+      sum-cong (suc n) {f = λ i. tailOf (suc n) c (suc i)} (λ i l. tailOf-more n c l),
+      sum-plus (suc n) (λ i. tailOf n c (suc i)) (λ i. c (suc n)),
+      sum-const (suc n) (c (suc n)),
+      none,
+      tailOf-total n c,
+    )
 
 -- The tails at 1 to n add to the mean.
 pub tails-total : (r : Chances) → Same (tailsTotal r) (mean r)
@@ -104,38 +105,48 @@ raised-cut most a (suc b) = by-order (ltb a (suc b)) refl
     by-order true below = let l : a < suc b = ltb-true a (suc b) below in omega arith
     by-order false above = refl
 
--- The units in whole numbers alone.
-pub units-whole : (n R A B X : ℕ) → units n R A B X ≡ min (X * complement R - A * n) ((B - A) * n)
-unfolding units
-units-whole n R A B X = raised-cut ((B - A) * n) (X * complement R) (A * n)
+-- The loss units in whole numbers alone.
+pub loss-units-whole : (n R A B X : ℕ) → lossUnits n R A B X ≡ min (X * complement R - A * n) ((B - A) * n)
+unfolding lossUnits
+loss-units-whole n R A B X = raised-cut ((B - A) * n) (X * complement R) (A * n)
 
 module _ (n R A B : ℕ) where
-  pub units-at-most : (X : ℕ) → units n R A B X ≤ (B - A) * n
-  units-at-most X = rw units-whole (min-le-right (X * complement R - A * n) ((B - A) * n))
+  pub loss-units-at-most : (X : ℕ) → lossUnits n R A B X ≤ (B - A) * n
+  loss-units-at-most X = rw loss-units-whole (min-le-right (X * complement R - A * n) ((B - A) * n))
 
   -- More defaults, no fewer units.
-  pub units-grow : {X Y : ℕ} → X ≤ Y → units n R A B X ≤ units n R A B Y
-  units-grow {X} {Y} l = rw (units-whole n R A B X, units-whole n R A B Y) (omega (arith, mul-le-mul-right (complement R) l))
+  pub loss-units-grow : {X Y : ℕ} → X ≤ Y → lossUnits n R A B X ≤ lossUnits n R A B Y
+  loss-units-grow {X} {Y} l =
+      rw (loss-units-whole n R A B X, loss-units-whole n R A B Y) (omega (arith, mul-le-mul-right (complement R) l))
 
 -- ---- expected loss
 
-module _ (r : Chances) (R A B : ℕ) (wide : 0 < (B - A) * r .assets) where
-  pub loss-at-most-one : Complete r → AtMost (expectedLoss r R A B wide) certainty
-  unfolding expectedLoss certainty
-  loss-at-most-one complete =
+module _ (r : Chances) (R A B : ℕ) where
+  pub loss-none : lossNumerator r R A B 0 ≡ 0
+  unfolding lossNumerator sum
+  loss-none = refl
+
+  pub loss-next : (m : ℕ) → lossNumerator r R A B (suc m) ≡ lossNumerator r R A B m + r .numerator m * lossUnits (r .assets) R A B m
+  unfolding lossNumerator sum
+  loss-next m = refl
+
+  -- Where fewer than n defaults have no units, the chance of n defaults alone counts.
+  pub loss-of-last : lossUnits (r .assets) R A B (r .assets - 1) ≡ 0 → lossNumerator r R A B (suc (r .assets)) ≡ r .numerator (r .assets) * lossUnits (r .assets) R A B (r .assets)
+  unfolding lossNumerator
+  loss-of-last none =
+      let n = r .assets in
+      sum-last n (λ X. r .numerator X * lossUnits n R A B X)
+      (λ X l. let zero-units : lossUnits n R A B X ≡ 0 = omega (arith, loss-units-grow n R A B {X = X} {Y = n - 1} (omega arith)) in rw zero-units (omega arith))
+
+  pub loss-at-most-one : (wide : 0 < (B - A) * r .assets) → Complete r → AtMost (expectedLoss r R A B wide) certainty
+  unfolding expectedLoss lossNumerator certainty
+  loss-at-most-one wide complete =
       let n = r .assets in
       let c = r .numerator in
       let width : ℕ = (B - A) * n in
-      omega
-      ( arith
-      , sum-mono (suc n) {f = λ X. c X * units n R A B X} {g = λ X. width * c X} (λ X l. omega (arith, mul-le-mul-left (c X) (units-at-most n R A B X)))
-      , sum-times (suc n) width c
-      , ap (λ z. width * z) complete)
-
-  -- Where fewer than n defaults have no units, the chance of n defaults alone counts.
-  pub loss-of-last : units (r .assets) R A B (r .assets - 1) ≡ 0 → (expectedLoss r R A B wide) .num ≡ r .numerator (r .assets) * units (r .assets) R A B (r .assets)
-  unfolding expectedLoss
-  loss-of-last none =
-      let n = r .assets in
-      sum-last n (λ X. r .numerator X * units n R A B X)
-      (λ X l. let zero-units : units n R A B X ≡ 0 = omega (arith, units-grow n R A B {X = X} {Y = n - 1} (omega arith)) in rw zero-units (omega arith))
+      omega (
+        arith,
+        sum-mono (suc n) {f = λ X. c X * lossUnits n R A B X} {g = λ X. width * c X} (λ X l. omega (arith, mul-le-mul-left (c X) (loss-units-at-most n R A B X))),
+        sum-times (suc n) width c,
+        ap (λ z. width * z) complete,
+      )

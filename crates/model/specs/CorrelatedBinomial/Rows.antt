@@ -1,30 +1,55 @@
 -- The rows made by the passes split: P(j,k+1) + P(j+1,k+1) = P(j,k). From that alone follow the closed form, the total and the mean.
 -- Assumes nothing.
-use Prim.Native.Nat.{ℕ, zero, suc, _+_, _*_, _-_, _^_, _≤_, _<_}
-use mathlib.Core.Path.{_≡_, refl, sym, _∙_, ap, subst, fun-ext}
+use Prim.Native.Nat.{ℕ, zero, suc, _+_, _*_, _-_, _^_, _≤_, _<_, zero-le}
+use mathlib.Core.Path.{_≡_, refl, sym, _∙_, ap}
 use native.Mathlib.Omega.{arith}
-use native.Mathlib.Nat.{add-zero, add-suc, add-sub-of-le, pow-succ', pow-zero, sub-self, le-refl, le-step}
+use native.Mathlib.Nat.{add-zero, zero-add, add-suc, suc-add, one-mul, sub-zero, sub-self, suc-sub-suc, add-sub-of-le, pow-succ', pow-zero, le-refl, le-of-suc-le-suc, mul-le-mul-left}
+use native.Mathlib.Numerals.{one-add}
 use borrow.Author.Tests.{lt-ltb, le-ltb}
 use lib.Pow.{pow-add}
-use lib.IntN.{ℤ, pos}
-use Rattle.model.specs.Number.{triangle, alternatingSum}
-use Rattle.model.specs.Number.Laws.{triangle-mono}
-use Rattle.model.specs.Number.Splitting.{Splits, alternating-of-splits}
+use Rattle.model.specs.Number.{sum, choose, binomialSum, triangle}
+use Rattle.model.specs.Number.Laws.{pascal, binomial-cong, binomial-times, binomial-mean, triangle-mono}
+use Rattle.model.specs.Splitting.{Splits, binomial-of-splits}
 use Rattle.model.specs.Fraction.{whole, complement}
 use Rattle.model.specs.Fraction.Laws.{complement-law}
 use Rattle.model.specs.Passes.{folded}
 use Rattle.model.specs.Passes.Laws.{passed-all}
-use Rattle.model.specs.CorrelatedBinomial.{conditional, joint, scaledJoint, closedForm, passStep, rowEntry}
+use Rattle.model.specs.CorrelatedBinomial.{conditional, joint, passStep, rowEntry}
 
 -- Passes over two rows of which one splits into the other.
 folded-splits : (ρ c : ℕ) (f g : ℕ → ℕ) (s j : ℕ) → ((i : ℕ) → j ≤ i → i ≤ j + s → f i + f (suc i) ≡ c * g i) → folded (passStep ρ) s f j + folded (passStep ρ) s f (suc j) ≡ c * folded (passStep ρ) s g j
 unfolding folded passStep
 folded-splits ρ c f g zero j h = h j (le-refl j) (omega arith)
 folded-splits ρ c f g (suc s) j h =
-    omega
-    ( arith
-    , ap (λ z. whole * z) (folded-splits ρ c f g s j (λ i l m. h i l (omega arith)))
-    , ap (λ z. ρ * z) (folded-splits ρ c f g s (suc j) (λ i l m. h i (omega arith) (omega arith))))
+    omega (
+      arith,
+      ap (λ z. whole * z) (folded-splits ρ c f g s j (λ i l m. h i l (omega arith))),
+      ap (λ z. ρ * z) (folded-splits ρ c f g s (suc j) (λ i l m. h i (omega arith) (omega arith))),
+    )
+
+-- The passes that reach an entry are a binomial sum.
+pub folded-binomial : (ρ : ℕ) (f : ℕ → ℕ) (s j : ℕ) → folded (passStep ρ) s f j ≡ binomialSum s (λ i. whole ^ (s - i) * ρ ^ i * f (j + i))
+unfolding folded passStep
+folded-binomial ρ f zero j = unfold binomialSum sum choose in (rw (pow-zero whole, pow-zero ρ, add-zero j) (omega arith))
+folded-binomial ρ f (suc s) j =
+    let h : ℕ → ℕ = λ i. whole ^ (suc s - i) * ρ ^ i * f (j + i) in
+    let here : ℕ → ℕ = λ i. whole ^ (s - i) * ρ ^ i * f (j + i) in
+    let next : ℕ → ℕ = λ i. whole ^ (s - i) * ρ ^ i * f (suc j + i) in
+    let first : binomialSum s h ≡ whole * binomialSum s here =
+    binomial-cong s
+    (λ i l. let more : suc s - i ≡ suc (s - i) = omega arith in rw (more, pow-succ' whole (s - i)) (omega arith))
+    ∙ binomial-times s whole here in
+    let second : binomialSum s (λ i. h (suc i)) ≡ ρ * binomialSum s next =
+    binomial-cong s (λ i l. rw (suc-sub-suc s i, pow-succ' ρ i, add-suc j i, suc-add j i) (omega arith))
+    ∙ binomial-times s ρ next in
+    omega (
+      arith,
+      ap (λ z. whole * z) (folded-binomial ρ f s j),
+      ap (λ z. ρ * z) (folded-binomial ρ f s (suc j)),
+      pascal s h,
+      first,
+      second,
+    )
 
 -- D^(T(K)−T(k)) = D^(k+1) × D^(T(K)−T(k+1))
 power-apart : {k K : ℕ} → k < K → whole ^ (triangle K - triangle k) ≡ whole ^ suc k * whole ^ (triangle K - triangle (suc k))
@@ -53,49 +78,87 @@ module _ (p ρ : ℕ) where
     conditional-complement zero = rw (pow-zero (complement ρ), pow-succ' whole 0, pow-zero whole) (omega (arith, complement-law p≤1))
     conditional-complement (suc k) =
         rw (pow-succ' (complement ρ) k, pow-succ' whole (suc k))
-        (omega
-        ( arith
-        , ap (λ z. z * complement ρ) (conditional-complement k)
-        , ap (λ z. whole ^ suc k * z) (complement-law ρ≤1)))
+        (omega (
+          arith,
+          ap (λ z. z * complement ρ) (conditional-complement k),
+          ap (λ z. whole ^ suc k * z) (complement-law ρ≤1),
+        ))
 
     last-splits : (k j : ℕ) → j + 0 ≡ k → rowEntry p ρ (suc k) j + rowEntry p ρ (suc k) (suc j) ≡ whole ^ suc k * rowEntry p ρ k j
     unfolding folded joint
     last-splits k j e =
         let j≡k : j ≡ k = sym (add-zero j) ∙ e in
         rw j≡k
-        (omega
-        ( arith
-        , row-next k k 0 (add-zero k)
-        , row-last (suc k)
-        , ap (λ z. z * conditional p ρ k) (row-last k)
-        , ap (λ z. rowEntry p ρ k k * z) (conditional-complement k)))
+        (omega (
+          arith,
+          row-next k k 0 (add-zero k),
+          row-last (suc k),
+          ap (λ z. z * conditional p ρ k) (row-last k),
+          ap (λ z. rowEntry p ρ k k * z) (conditional-complement k),
+        ))
 
-    -- P(j,k+1) + P(j+1,k+1) = P(j,k), as numerators.
-    pub row-splits : (k j d : ℕ) → j + d ≡ k → rowEntry p ρ (suc k) j + rowEntry p ρ (suc k) (suc j) ≡ whole ^ suc k * rowEntry p ρ k j
+    row-splits-by : (k j d : ℕ) → j + d ≡ k → rowEntry p ρ (suc k) j + rowEntry p ρ (suc k) (suc j) ≡ whole ^ suc k * rowEntry p ρ k j
     unfolding folded passStep
-    row-splits zero j zero e = last-splits zero j e
-    row-splits zero j (suc d) e = absurd (omega arith)
-    row-splits (suc k) j zero e = last-splits (suc k) j e
-    row-splits (suc k) j (suc d) e =
+    row-splits-by zero j zero e = last-splits zero j e
+    row-splits-by zero j (suc d) e = absurd (omega arith)
+    row-splits-by (suc k) j zero e = last-splits (suc k) j e
+    row-splits-by (suc k) j (suc d) e =
         let row : ℕ → ℕ = folded (passStep ρ) d (rowEntry p ρ (suc k)) in
         let g : ℕ = complement p * complement ρ ^ j in
         rw (row-next (suc k) j (suc d) e, row-next (suc k) (suc j) d (omega arith), row-next k j d (omega arith), pow-succ' (complement ρ) j, pow-succ' whole (suc k))
-        (omega
-        ( arith
-        , ap (λ z. g * (whole * z)) (folded-splits ρ (whole ^ suc k) (rowEntry p ρ (suc k)) (rowEntry p ρ k) d j (λ i l m. row-splits k i (k - i) (omega arith)))
-        , ap (λ z. g * row (suc j) * z) (complement-law ρ≤1)))
+        (omega (
+          arith,
+          ap (λ z. g * (whole * z)) (folded-splits ρ (whole ^ suc k) (rowEntry p ρ (suc k)) (rowEntry p ρ k) d j (λ i l m. row-splits-by k i (k - i) (omega arith))),
+          ap (λ z. g * row (suc j) * z) (complement-law ρ≤1),
+        ))
 
+    -- P(j,k+1) + P(j+1,k+1) = P(j,k), as numerators.
+    pub row-splits : {j k : ℕ} → j ≤ k → rowEntry p ρ (suc k) j + rowEntry p ρ (suc k) (suc j) ≡ whole ^ suc k * rowEntry p ρ k j
+    row-splits {j} {k} l = row-splits-by k j (k - j) (add-sub-of-le l)
+
+    -- The same with all rows down to row K over D^T(K).
     pub scaled-rows-split : (K : ℕ) → Splits K (λ k j. rowEntry p ρ k j * whole ^ (triangle K - triangle k))
     scaled-rows-split K k j k<K j≤k =
         rw (power-apart k<K)
-        (omega (arith, ap (λ z. z * whole ^ (triangle K - triangle (suc k))) (row-splits k j (k - j) (add-sub-of-le j≤k))))
+        (omega (arith, ap (λ z. z * whole ^ (triangle K - triangle (suc k))) (row-splits j≤k)))
 
-    pub closed-form : {j k : ℕ} → j ≤ k → closedForm p ρ j k ≡ pos (rowEntry p ρ k j)
-    unfolding closedForm scaledJoint
-    closed-form {j} {k} j≤k =
-        let entry : ℕ → ℕ → ℕ = λ n i. rowEntry p ρ n i * whole ^ (triangle k - triangle n) in
-        let here : entry k j ≡ rowEntry p ρ k j = rw (sub-self (triangle k), pow-zero whole) (omega arith) in
-        ap (alternatingSum (k - j)) (fun-ext (λ i. ap (λ z. z * whole ^ (triangle k - triangle (j + i))) (sym (row-last (j + i)))))
-        ∙ alternating-of-splits k entry (scaled-rows-split k) (k - j) j (omega arith)
-        ∙ ap (λ n. pos (entry n j)) (add-sub-of-le j≤k)
-        ∙ ap pos here
+    -- Entry j of row k from the entries of the row that is s below it.
+    rows-binomial : (s k j : ℕ) → j ≤ k → binomialSum s (λ i. rowEntry p ρ (k + s) (j + i)) ≡ rowEntry p ρ k j * whole ^ (triangle (k + s) - triangle k)
+    rows-binomial s k j l =
+        let entry : ℕ → ℕ → ℕ = λ n i. rowEntry p ρ n i * whole ^ (triangle (k + s) - triangle n) in
+        binomial-cong s (λ i m. rw (sub-self (triangle (k + s)), pow-zero whole) (omega arith))
+        ∙ binomial-of-splits (k + s) entry (scaled-rows-split (k + s)) s k j (le-refl (k + s)) l
+
+    -- The entries of row n, each with its count of orders, add to D^T(n).
+    pub row-total : (n : ℕ) → binomialSum n (λ j. rowEntry p ρ n j) ≡ whole ^ triangle n
+    unfolding rowEntry triangle
+    row-total n = simp (zero-add, sub-zero, one-mul) at (rows-binomial n 0 0 (le-refl 0))
+
+    -- The same with j defaults counted j times.
+    pub row-mean : (n : ℕ) → sum (suc n) (λ j. j * (choose n j * rowEntry p ρ n j)) * whole ≡ n * p * whole ^ triangle n
+    unfolding sum joint conditional triangle
+    row-mean zero = omega arith
+    row-mean (suc n) =
+        let t : ℕ = whole ^ (triangle (suc n) - 1) in
+        let above : triangle (suc n) ≡ suc (triangle (suc n) - 1) = omega arith in
+        let power : whole ^ triangle (suc n) ≡ whole * t = ap (λ z. whole ^ z) above ∙ pow-succ' whole (triangle (suc n) - 1) in
+        let rest : binomialSum n (λ i. rowEntry p ρ (suc n) (suc i)) ≡ rowEntry p ρ 1 1 * t = simp one-add at (rows-binomial n 1 1 (le-refl 1)) in
+        omega (
+          arith,
+          ap (λ z. z * whole) (binomial-mean n (rowEntry p ρ (suc n))),
+          ap (λ z. suc n * whole * z) rest,
+          ap (λ z. suc n * whole * t * z) (row-last 1),
+          ap (λ z. suc n * p * z) power,
+        )
+
+    -- Both parts of an entry that is at most one are at most one.
+    parts-at-most : {j k : ℕ} → j ≤ k → rowEntry p ρ k j ≤ whole ^ triangle k → (rowEntry p ρ (suc k) j ≤ whole ^ triangle (suc k)) × (rowEntry p ρ (suc k) (suc j) ≤ whole ^ triangle (suc k))
+    unfolding triangle
+    parts-at-most {j} {k} l m = rw (pow-add whole (triangle k) (suc k)) (omega (arith, row-splits l, mul-le-mul-left (whole ^ suc k) m))
+
+    -- P(j,k) is at most one.
+    pub row-at-most : (k j : ℕ) → j ≤ k → rowEntry p ρ k j ≤ whole ^ triangle k
+    unfolding rowEntry triangle
+    row-at-most zero j l = rw (pow-zero whole) (le-refl 1)
+    row-at-most (suc k) zero l = parts-at-most {k = k} zero-le (row-at-most k zero zero-le) .0
+    row-at-most (suc k) (suc j) l = parts-at-most (le-of-suc-le-suc l) (row-at-most k j (le-of-suc-le-suc l)) .1

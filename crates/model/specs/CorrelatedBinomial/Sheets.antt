@@ -1,20 +1,15 @@
 -- The sheets worked by hand: one table of figures, each beside the exact definition that gives it, and one claim, that each line holds.
 -- Assumes nothing.
-use Prim.Native.Nat.{ℕ, zero, suc, _*_, _-_, _^_, _<_}
-use mathlib.Core.Path.{_≡_, refl, sym, _∙_, ap}
-use mathlib.Core.Bool.{Bool, true, false, _&&_}
+use Prim.Native.Nat.{ℕ, _*_, _^_}
+use mathlib.Core.Path.{_≡_, refl, ap}
 use mathlib.Core.List.{List, [], _∷_, _++_}
-use native.Mathlib.Nat.{one-le-pow, le-refl, one-mul}
-use native.Mathlib.Omega.{arith}
-use lib.Dec.{T, eqb, eqb→eq, lit<, lit≤}
-use lib.IntN.{_-ℤ_}
-use Rattle.model.specs.Number.{sum, choose, integerSum, signed, alternatingSum, triangle}
-use Rattle.model.specs.Number.Laws.{choose-all}
+use native.Mathlib.Nat.{one-le-pow}
+use lib.Dec.{lit<}
+use Rattle.model.specs.Number.{sum, choose, integerSum, signed, alternatingSum, triangle, cut, raise}
 use Rattle.model.specs.Fraction.{Fraction, Same, whole, complement, over}
-use Rattle.model.specs.Chances.{share, chance, cut, raise, units, expectedLoss}
+use Rattle.model.specs.Chances.{share, chance, lossUnits, lossNumerator, expectedLoss}
 use Rattle.model.specs.Chances.Laws.{loss-of-last}
 use Rattle.model.specs.CorrelatedBinomial.{conditional, joint, scaledJoint, closedForm, probability, defaults}
-use Rattle.model.specs.CorrelatedBinomial.Theorems.{probability-last}
 
 -- A decimal figure: n / 10^places.
 decimal : (n places : ℕ) → Fraction
@@ -48,10 +43,10 @@ small =
     ∷ line 3 (chance (defaults 3 1000 3000) 1) (decimal 140049 6)
     ∷ line 3 (chance (defaults 3 1000 3000) 2) (decimal 48951 6)
     ∷ line 3 (chance (defaults 3 1000 3000) 3) (decimal 20683 6)
-    ∷ line 4 (over (units 3 4000 1000 3000 0) 0) (decimal 0 0)
-    ∷ line 4 (over (units 3 4000 1000 3000 1) 0) (decimal 3000 0)
-    ∷ line 4 (over (units 3 4000 1000 3000 2) 0) (decimal 6000 0)
-    ∷ line 4 (over (units 3 4000 1000 3000 3) 0) (decimal 6000 0)
+    ∷ line 4 (over (lossUnits 3 4000 1000 3000 0) 0) (decimal 0 0)
+    ∷ line 4 (over (lossUnits 3 4000 1000 3000 1) 0) (decimal 3000 0)
+    ∷ line 4 (over (lossUnits 3 4000 1000 3000 2) 0) (decimal 6000 0)
+    ∷ line 4 (over (lossUnits 3 4000 1000 3000 3) 0) (decimal 6000 0)
     ∷ line 4 (expectedLoss (defaults 3 1000 3000) 4000 1000 3000 (lit< tt)) (decimal 1396585 7)
     ∷ line 5 (expectedLoss (defaults 3 1000 3000) 4000 0 6000 (lit< tt)) (decimal 1 1)
     ∷ line 6 (expectedLoss (defaults 3 1000 3000) 4000 6000 10000 (lit< tt)) (decimal 0 0)
@@ -88,19 +83,17 @@ by-products (l ∷ ls) e = (record { cross = cc }, by-products ls (cc))
 
 -- The small lines are computed.
 small-holds : Every small
-unfolding small line exact-products figure-products decimal over triangle whole complement conditional joint scaledJoint closedForm probability defaults choose sum integerSum signed alternatingSum share chance cut raise units expectedLoss
+unfolding small line exact-products figure-products decimal over triangle whole complement conditional joint scaledJoint closedForm probability defaults choose sum integerSum signed alternatingSum share chance cut raise lossUnits lossNumerator expectedLoss
 small-holds = by-products small refl
 
--- At sheet 10 only the chance of 64 defaults counts, and it is m_64.
-large-numerator : large .exact .num ≡ choose 64 64 * (over (joint 1 0 64) (triangle 64)) .num * 64
-unfolding large line defaults units cut raise complement whole
-large-numerator =
-    loss-of-last (defaults 64 1 0) 0 9999 10000 (lit< tt) refl
-    ∙ ap (λ (x : Fraction). choose 64 64 * x .num * 64) (probability-last 1 0 (lit≤ tt) (lit≤ tt) 64)
+-- Sheet 10: the terms with no loss units drop out, and the one that is left, m_64 times 64, is computed.
+large-numerator : large .exact .num ≡ choose 64 64 * probability 1 0 64 64 .num * 64
+unfolding large line defaults expectedLoss lossUnits cut raise complement whole
+large-numerator = loss-of-last (defaults 64 1 0) 0 9999 10000 refl
 
 large-holds : Same (large .exact) (large .figure)
-unfolding large line decimal over defaults conditional joint complement whole expectedLoss triangle
-large-holds = record { cross = ap (λ z. z * 10 ^ 256) (large-numerator ∙ ap (λ z. z * joint 1 0 64 * 64) (choose-all 64)) }
+unfolding large line decimal over triangle whole complement conditional joint scaledJoint closedForm probability defaults choose integerSum signed alternatingSum raise expectedLoss
+large-holds = record { cross = ap (λ z. z * 10 ^ 256) large-numerator }
 
 append : (ls : List Line) (l : Line) → Every ls → Same (l .exact) (l .figure) → Every (ls ++ (l ∷ []))
 append [] l h e = (e, tt)

@@ -1,7 +1,7 @@
 -- Laws of finite sums, binomial counts and triangle numbers.
 -- Assumes nothing.
 use Prim.Native.Nat.{ℕ, zero, suc, _+_, _*_, _≤_, _<_, suc-le-suc}
-use mathlib.Core.Path.{_≡_, refl, sym, _∙_, ap}
+use mathlib.Core.Path.{_≡_, refl, _∙_, ap}
 use native.Mathlib.Nat.{le-step, le-of-suc-le-suc, lt-suc-self, zero-add, suc-add, add-mul, mul-add, mul-left-comm, mul-le-mul}
 use native.Mathlib.Omega.{arith}
 use Rattle.model.specs.Number.{sum, choose, factorial, triangle, binomialSum}
@@ -97,25 +97,27 @@ unfolding binomialSum choose sum
 pascal d h =
     let rest : ℕ = sum (suc d) (λ i. choose d (suc i) * h (suc i)) in
     let split : sum (suc d) (λ i. choose (suc d) (suc i) * h (suc i)) ≡ sum (suc d) (λ i. choose d i * h (suc i)) + rest =
-        sum-cong (suc d) (λ i l. add-mul (choose d i) (choose d (suc i)) (h (suc i)))
-        ∙ sum-plus (suc d) (λ i. choose d i * h (suc i)) (λ i. choose d (suc i) * h (suc i)) in
-    omega
-    ( arith
-    , split
-    , sum-first (suc d) (λ i. choose (suc d) i * h i)
-    , sum-first (suc d) (λ i. choose d i * h i)
-    , ap (λ z. z * h (suc d)) (choose-past d (suc d) (lt-suc-self d)))
+    sum-cong (suc d) (λ i l. add-mul (choose d i) (choose d (suc i)) (h (suc i)))
+    ∙ sum-plus (suc d) (λ i. choose d i * h (suc i)) (λ i. choose d (suc i) * h (suc i)) in
+    omega (
+      arith,
+      split,
+      sum-first (suc d) (λ i. choose (suc d) i * h i),
+      sum-first (suc d) (λ i. choose d i * h i),
+      ap (λ z. z * h (suc d)) (choose-past d (suc d) (lt-suc-self d)),
+    )
 
 -- The mean of a binomial row of n + 1 places.
 pub binomial-mean : (n : ℕ) (f : ℕ → ℕ) → sum (suc (suc n)) (λ j. j * (choose (suc n) j * f j)) ≡ suc n * binomialSum n (λ i. f (suc i))
 unfolding binomialSum
 binomial-mean n f =
     sum-first (suc n) (λ j. j * (choose (suc n) j * f j))
-    ∙ omega
-    ( arith
-    , sum-cong (suc n) {f = λ i. suc i * (choose (suc n) (suc i) * f (suc i))} {g = λ i. suc n * (choose n i * f (suc i))}
-        (λ i l. omega (arith, ap (λ z. z * f (suc i)) (choose-absorb n i)))
-    , sum-times (suc n) (suc n) (λ i. choose n i * f (suc i)))
+    ∙ omega (
+      arith,
+      sum-cong (suc n) {f = λ i. suc i * (choose (suc n) (suc i) * f (suc i))} {g = λ i. suc n * (choose n i * f (suc i))}
+          (λ i l. omega (arith, ap (λ z. z * f (suc i)) (choose-absorb n i))),
+      sum-times (suc n) (suc n) (λ i. choose n i * f (suc i)),
+    )
 
 -- ---- triangle numbers
 

@@ -26,5 +26,5 @@ module _ {A : Type 0} (step : A → A → A) (f : ℕ → A) where
   pub passed-all : (k j d : ℕ) → j + d ≡ k → passed step (suc k) k f j ≡ folded step d f j
   passed-all k j d e =
       let all : passed step (suc (j + d)) (j + d) f j ≡ folded step d f j =
-          subst (λ s. passed step (suc (j + d)) s f j ≡ folded step d f j) (add-comm d j) (passed-stays j d j) in
+      subst (λ s. passed step (suc (j + d)) s f j ≡ folded step d f j) (add-comm d j) (passed-stays j d j) in
       rw e at all

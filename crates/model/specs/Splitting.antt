@@ -5,25 +5,13 @@ use Prim.Native.Nat.{ℕ, zero, suc, _+_, _*_, _≤_, _<_, suc-le-suc}
 use mathlib.Core.Path.{_≡_, refl, sym, _∙_, ap, ap₂}
 use native.Mathlib.Omega.{arith}
 use native.Mathlib.Nat.{add-suc, add-zero, suc-add, mul-left-comm, le-refl, le-step}
-use lib.IntN.{ℤ, pos, negℤ, _+ℤ_, _-ℤ_, +ℤ-assoc, +ℤ-comm, +ℤ-idl, +ℤ-idr, +ℤ-invl, +ℤ-negℤ-cancel}
+use lib.IntN.{ℤ, pos, negℤ, _+ℤ_, _-ℤ_, +ℤ-assoc, +ℤ-comm, +ℤ-idl, +ℤ-invl, +ℤ-negℤ-cancel}
 use Rattle.model.specs.Number.{sum, choose, binomialSum, integerSum, signed, alternatingSum}
 use Rattle.model.specs.Number.Laws.{sum-cong, pascal, binomial-cong, binomial-plus}
 
 -- Down to row K, entry j of row k is the sum of entries j and j + 1 of row k + 1.
 abbrev pub Splits : ℕ → (ℕ → ℕ → ℕ) → Type 0
 Splits K S = (k j : ℕ) → k < K → j ≤ k → S (suc k) j + S (suc k) (suc j) ≡ S k j
-
-module _ (K : ℕ) (S : ℕ → ℕ → ℕ) (splits : Splits K S) where
-  -- Entry j of row k from the entries of the row that is s below it.
-  pub binomial-of-splits : (s k j : ℕ) → k + s ≤ K → j ≤ k → binomialSum s (λ i. S (k + s) (j + i)) ≡ S k j
-  unfolding binomialSum sum choose
-  binomial-of-splits zero k j l m = rw (add-zero k, add-zero j) (omega arith)
-  binomial-of-splits (suc s) k j l m =
-      rw (add-suc k s)
-      (pascal s (λ i. S (suc (k + s)) (j + i))
-      ∙ sym (binomial-plus s (λ i. S (suc (k + s)) (j + i)) (λ i. S (suc (k + s)) (j + suc i)))
-      ∙ binomial-cong s (λ i i≤s. rw (add-suc j i) (splits (k + s) (j + i) (omega arith) (omega arith)))
-      ∙ binomial-of-splits s k j (omega arith) m)
 
 -- 1 at even places, 0 at odd ones.
 even : ℕ → ℕ
@@ -75,14 +63,25 @@ unfolding added taken even
 taken-next d h = pascal d (λ i. even (suc i) * h i)
 
 module _ (K : ℕ) (S : ℕ → ℕ → ℕ) (splits : Splits K S) where
+  -- Entry j of row k from the entries of the row that is s below it.
+  pub binomial-of-splits : (s k j : ℕ) → k + s ≤ K → j ≤ k → binomialSum s (λ i. S (k + s) (j + i)) ≡ S k j
+  unfolding binomialSum sum choose
+  binomial-of-splits zero k j l m = rw (add-zero k, add-zero j) (omega arith)
+  binomial-of-splits (suc s) k j l m =
+      rw (add-suc k s)
+      (pascal s (λ i. S (suc (k + s)) (j + i))
+      ∙ sym (binomial-plus s (λ i. S (suc (k + s)) (j + i)) (λ i. S (suc (k + s)) (j + suc i)))
+      ∙ binomial-cong s (λ i i≤s. rw (add-suc j i) (splits (k + s) (j + i) (omega arith) (omega arith)))
+      ∙ binomial-of-splits s k j (omega arith) m)
+
   parts-of-splits : (d j : ℕ) (h : ℕ → ℕ) → ((i : ℕ) → i ≤ d → h i ≡ S (j + i) (j + i)) → j + d ≤ K → S (j + d) j + taken d h ≡ added d h
   parts-of-splits zero j h e l = unfold taken added even binomialSum sum choose in (rw (add-zero j) (omega (arith, rw (add-zero j) at (e 0 (le-refl 0)))))
   parts-of-splits (suc d) j h e l =
       let left : S (j + d) j + taken d h ≡ added d h = parts-of-splits d j h (λ i m. e i (le-step m)) (omega arith) in
       let right : S (suc j + d) (suc j) + taken d (λ i. h (suc i)) ≡ added d (λ i. h (suc i)) =
-          parts-of-splits d (suc j) (λ i. h (suc i)) (λ i m. rw (suc-add, ← add-suc) (e (suc i) (suc-le-suc m))) (omega arith) in
+      parts-of-splits d (suc j) (λ i. h (suc i)) (λ i m. rw (suc-add, ← add-suc) (e (suc i) (suc-le-suc m))) (omega arith) in
       let down : S (suc (j + d)) j + S (suc (j + d)) (suc j) ≡ S (j + d) j =
-          splits (j + d) j (omega arith) (omega arith) in
+      splits (j + d) j (omega arith) (omega arith) in
       rw (add-suc j d) (omega (arith, added-next d h, taken-next d h, rw suc-add at right))
 
   -- Entry j of row j + d from the last entries of rows j to j + d.
