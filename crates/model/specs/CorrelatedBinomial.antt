@@ -33,7 +33,7 @@ pub closedForm : (p ρ j k : ℕ) → ℤ
 closedForm p ρ j k = alternatingSum (k - j) (λ i. scaledJoint p ρ k (j + i))
 
 -- P(j,k), the chance that among k assets j named ones default and the other k − j survive. The closed form is never negative
--- (`closed-form`), so that `raise` changes nothing.
+-- (`closed-form-numerator`), so that `raise` changes nothing.
 unfoldable pub probability : (p ρ j k : ℕ) → Fraction
 probability p ρ j k = over (raise (closedForm p ρ j k)) (triangle k)
 

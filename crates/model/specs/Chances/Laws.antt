@@ -131,7 +131,8 @@ module _ (r : Chances) (R A B : ℕ) where
   loss-next m = refl
 
   -- Where fewer than n defaults have no units, the chance of n defaults alone counts.
-  pub loss-of-last : lossUnits (r .assets) R A B (r .assets - 1) ≡ 0 → lossNumerator r R A B (suc (r .assets)) ≡ r .numerator (r .assets) * lossUnits (r .assets) R A B (r .assets)
+  pub loss-of-last : lossUnits (r .assets) R A B (r .assets - 1) ≡ 0
+      → lossNumerator r R A B (suc (r .assets)) ≡ r .numerator (r .assets) * lossUnits (r .assets) R A B (r .assets)
   unfolding lossNumerator
   loss-of-last none =
       let n = r .assets in

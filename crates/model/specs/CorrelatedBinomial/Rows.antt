@@ -17,7 +17,9 @@ use Rattle.model.specs.Passes.Laws.{passed-all}
 use Rattle.model.specs.CorrelatedBinomial.{conditional, joint, passStep, rowEntry}
 
 -- Passes over two rows of which one splits into the other.
-folded-splits : (ρ c : ℕ) (f g : ℕ → ℕ) (s j : ℕ) → ((i : ℕ) → j ≤ i → i ≤ j + s → f i + f (suc i) ≡ c * g i) → folded (passStep ρ) s f j + folded (passStep ρ) s f (suc j) ≡ c * folded (passStep ρ) s g j
+folded-splits : (ρ c : ℕ) (f g : ℕ → ℕ) (s j : ℕ)
+    → ((i : ℕ) → j ≤ i → i ≤ j + s → f i + f (suc i) ≡ c * g i)
+    → folded (passStep ρ) s f j + folded (passStep ρ) s f (suc j) ≡ c * folded (passStep ρ) s g j
 unfolding folded passStep
 folded-splits ρ c f g zero j h = h j (le-refl j) (omega arith)
 folded-splits ρ c f g (suc s) j h =
@@ -152,7 +154,8 @@ module _ (p ρ : ℕ) where
         )
 
     -- Both parts of an entry that is at most one are at most one.
-    parts-at-most : {j k : ℕ} → j ≤ k → rowEntry p ρ k j ≤ whole ^ triangle k → (rowEntry p ρ (suc k) j ≤ whole ^ triangle (suc k)) × (rowEntry p ρ (suc k) (suc j) ≤ whole ^ triangle (suc k))
+    parts-at-most : {j k : ℕ} → j ≤ k → rowEntry p ρ k j ≤ whole ^ triangle k
+        → (rowEntry p ρ (suc k) j ≤ whole ^ triangle (suc k)) × (rowEntry p ρ (suc k) (suc j) ≤ whole ^ triangle (suc k))
     unfolding triangle
     parts-at-most {j} {k} l m = rw (pow-add whole (triangle k) (suc k)) (omega (arith, row-splits l, mul-le-mul-left (whole ^ suc k) m))
 

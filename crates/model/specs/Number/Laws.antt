@@ -54,12 +54,7 @@ choose-past (suc n) zero l = omega arith
 choose-past zero (suc i) l = refl
 choose-past (suc n) (suc i) l = omega (arith, choose-past n i (omega arith), choose-past n (suc i) (omega arith))
 
-pub choose-all : (n : ℕ) → choose n n ≡ 1
-unfolding choose
-choose-all zero = refl
-choose-all (suc n) = omega (arith, choose-all n, choose-past n (suc n) (lt-suc-self n))
-
--- (i+1) · C(n+1,i+1) = (n+1) · C(n,i)
+-- (i+1) × C(n+1,i+1) = (n+1) × C(n,i)
 pub choose-absorb : (n i : ℕ) → suc i * choose (suc n) (suc i) ≡ suc n * choose n i
 unfolding choose
 choose-absorb zero zero = refl
@@ -67,7 +62,7 @@ choose-absorb zero (suc i) = omega arith
 choose-absorb (suc n) zero = omega (arith, choose-absorb n zero)
 choose-absorb (suc n) (suc i) = omega (arith, choose-absorb n i, choose-absorb n (suc i))
 
--- C(i+j,i) · i! · j! = (i+j)!
+-- C(i+j,i) × i! × j! = (i+j)!
 pub choose-factorial : (i j : ℕ) → choose (i + j) i * (factorial i * factorial j) ≡ factorial (i + j)
 unfolding choose factorial
 choose-factorial zero j = rw zero-add (omega arith)
