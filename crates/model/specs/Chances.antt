@@ -1,11 +1,11 @@
 -- A row of chances in general: the chances of 0 to n defaults, as numerators over one denominator. Tails, mean and tranche losses are defined for
 -- any such row, whatever model it comes from.
 -- Assumes nothing.
-use Prim.Native.Nat.{ℕ, suc, _+_, _*_, _-_, _<_}
+use Prim.Native.Nat.{ℕ, suc, _*_, _-_, _<_}
 use mathlib.Core.Path.{_≡_}
 use native.Mathlib.Nat.{mul-pos}
 use lib.IntN.{pos, _-ℤ_}
-use Rattle.model.specs.Number.{sum, cut, raise}
+use Rattle.model.specs.Number.{sum, sumBetween, cut, raise}
 use Rattle.model.specs.Fraction.{Fraction, complement}
 pub mod Laws
 
@@ -31,7 +31,7 @@ chance r j = share r (r .numerator j)
 
 -- The tail at k: the chance of k or more defaults, over the row's denominator.
 unfoldable pub tailNumerator : Chances → ℕ → ℕ
-tailNumerator r k = sum (suc (r .assets) - k) (λ i. r .numerator (k + i))
+tailNumerator r k = sumBetween k (r .assets) (r .numerator)
 
 unfoldable pub tail : Chances → ℕ → Fraction
 tail r k = share r (tailNumerator r k)

@@ -1,6 +1,6 @@
 -- Finite sums, binomial counts, binomial and alternating sums, triangle numbers, limits put to an integer.
 -- Assumes nothing.
-use Prim.Native.Nat.{ℕ, zero, suc, _+_, _*_, min}
+use Prim.Native.Nat.{ℕ, zero, suc, _+_, _*_, _-_, min}
 use lib.IntN.{ℤ, pos, negsuc, negℤ, _+ℤ_}
 pub mod Laws
 
@@ -8,6 +8,10 @@ pub mod Laws
 unfoldable pub sum : ℕ → (ℕ → ℕ) → ℕ
 sum zero f = 0
 sum (suc n) f = sum n f + f n
+
+-- f k + f (k + 1) + … + f n
+unfoldable pub sumBetween : (k n : ℕ) → (ℕ → ℕ) → ℕ
+sumBetween k n f = sum (suc n - k) (λ i. f (k + i))
 
 -- C(n,i), n over i: the ways to choose i of n things, by Pascal's rule. `choose-factorial` shows that it is n!/(i!(n−i)!).
 unfoldable pub choose : ℕ → ℕ → ℕ

@@ -1,38 +1,31 @@
 -- Laws of tails, mean and expected loss, for a row of chances in general.
 -- Assumes nothing.
 use Prim.Native.Nat.{ℕ, zero, suc, _+_, _*_, _-_, _≤_, _<_, min}
-use mathlib.Core.Path.{_≡_, refl, sym, _∙_, ap, ap₂}
+use mathlib.Core.Path.{_≡_, refl, _∙_, ap}
 use mathlib.Core.Bool.{Bool, true, false, cond}
 use native.Mathlib.Omega.{arith}
 use native.Mathlib.Decide.{decLe}
-use native.Mathlib.Nat.{add-zero, zero-add, add-suc, suc-add, sub-zero, sub-self, add-sub-of-le, le-refl, le-trans, min-le-right, mul-le-mul-left, mul-le-mul-right}
+use native.Mathlib.Nat.{add-zero, zero-add, add-suc, sub-zero, add-sub-of-le, le-refl, le-trans, min-le-right, mul-le-mul-left, mul-le-mul-right}
 use lib.IntN.{pos, negsuc, _-ℤ_}
 use lib.Dec.{ltb}
 use borrow.Author.Tests.{ltb-true}
-use Rattle.model.specs.Number.{sum, cut, raise}
-use Rattle.model.specs.Number.Laws.{sum-cong, sum-mono, sum-plus, sum-times, sum-first, sum-const, sum-last}
+use Rattle.model.specs.Number.{sum, sumBetween, cut, raise}
+use Rattle.model.specs.Number.Laws.{sum-cong, sum-mono, sum-times, sum-last, between-first, between-none, between-total}
 use Rattle.model.specs.Fraction.{Same, AtMost, certainty, complement}
 use Rattle.model.specs.Chances.{Chances, Complete, share, tailNumerator, tail, mean, tailsTotal, lossUnits, lossNumerator, expectedLoss}
 
--- ---- tails
+-- ---- tails and mean
 
 module _ (r : Chances) where
   -- The tail at k is the chance of k defaults plus the tail at k + 1.
   pub tail-next : {k : ℕ} → k ≤ r .assets → tailNumerator r k ≡ r .numerator k + tailNumerator r (suc k)
   unfolding tailNumerator
-  tail-next {k} l =
-      let n = r .assets in
-      let c = r .numerator in
-      let here : suc n - k ≡ suc (n - k) = omega arith in
-      let next : suc n - suc k ≡ n - k = omega arith in
-      rw (here, next)
-      (sum-first (n - k) (λ i. c (k + i))
-      ∙ ap₂ _+_ (ap c (add-zero k)) (sum-cong (n - k) (λ i m. ap c (add-suc k i ∙ sym (suc-add k i)))))
+  tail-next l = between-first (r .assets) (r .numerator) l
 
   -- There are no more than n defaults.
   pub tail-past : {k : ℕ} → r .assets < k → tailNumerator r k ≡ 0
-  unfolding tailNumerator sum
-  tail-past {k} l = let none : suc (r .assets) - k ≡ 0 = omega arith in rw none
+  unfolding tailNumerator
+  tail-past l = between-none (r .assets) (r .numerator) l
 
   tail-step : (k : ℕ) → tailNumerator r (suc k) ≤ tailNumerator r k
   tail-step k = by-place (decLe k (r .assets))
@@ -50,9 +43,14 @@ module _ (r : Chances) where
   unfolding tail share
   tail-falls {i} {k} l = record { cross = mul-le-mul-right (r .denominator) (rw (add-sub-of-le l) at (tail-steps i (k - i))) }
 
+  -- The tails at 1 to n add to the mean.
+  pub tails-total : Same (tailsTotal r) (mean r)
+  unfolding tailsTotal mean share tailNumerator
+  tails-total = record { cross = ap (λ z. z * r .denominator) (between-total (r .assets) (r .numerator)) }
+
   module _ (complete : Complete r) where
     whole-tail : tailNumerator r 0 ≡ r .denominator
-    unfolding tailNumerator
+    unfolding tailNumerator sumBetween
     whole-tail = rw sub-zero (sum-cong (suc (r .assets)) (λ i l. ap (r .numerator) (zero-add i)) ∙ complete)
 
     pub tail-at-zero : Same (tail r 0) certainty
@@ -62,37 +60,6 @@ module _ (r : Chances) where
     pub tail-at-most-one : (k : ℕ) → AtMost (tail r k) certainty
     unfolding tail share certainty
     tail-at-most-one k = omega (arith, whole-tail, rw zero-add at (tail-steps 0 k))
-
--- ---- the mean
-
--- `tailNumerator` over n and the numerators c.
-tailOf : ℕ → (ℕ → ℕ) → ℕ → ℕ
-tailOf n c k = sum (suc n - k) (λ i. c (k + i))
-
-tailOf-more : (n : ℕ) (c : ℕ → ℕ) {k : ℕ} → k ≤ suc n → tailOf (suc n) c k ≡ tailOf n c k + c (suc n)
-unfolding tailOf sum
-tailOf-more n c {k} l =
-    let more : suc (suc n) - k ≡ suc (suc n - k) = omega arith in
-    rw more (ap (λ z. sum (suc n - k) (λ i. c (k + i)) + c z) (add-sub-of-le l))
-
-tailOf-total : (n : ℕ) (c : ℕ → ℕ) → sum n (λ i. tailOf n c (suc i)) ≡ sum (suc n) (λ j. j * c j)
-unfolding sum
-tailOf-total zero c = omega arith
-tailOf-total (suc n) c =
-    let none : tailOf n c (suc n) ≡ 0 = unfold tailOf in rw (sub-self (suc n)) in
-    omega (
-      arith,
-      sum-cong (suc n) {f = λ i. tailOf (suc n) c (suc i)} (λ i l. tailOf-more n c l),
-      sum-plus (suc n) (λ i. tailOf n c (suc i)) (λ i. c (suc n)),
-      sum-const (suc n) (c (suc n)),
-      none,
-      tailOf-total n c,
-    )
-
--- The tails at 1 to n add to the mean.
-pub tails-total : (r : Chances) → Same (tailsTotal r) (mean r)
-unfolding tailsTotal mean share tailNumerator tailOf
-tails-total r = record { cross = ap (λ z. z * r .denominator) (tailOf-total (r .assets) (r .numerator)) }
 
 -- ---- loss units
 

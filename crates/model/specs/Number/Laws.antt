@@ -1,10 +1,10 @@
 -- Laws of finite sums, binomial counts and triangle numbers.
 -- Assumes nothing.
-use Prim.Native.Nat.{ℕ, zero, suc, _+_, _*_, _≤_, _<_, suc-le-suc}
-use mathlib.Core.Path.{_≡_, refl, _∙_, ap}
-use native.Mathlib.Nat.{le-step, le-of-suc-le-suc, lt-suc-self, zero-add, suc-add, add-mul, mul-add, mul-left-comm, mul-le-mul}
+use Prim.Native.Nat.{ℕ, zero, suc, _+_, _*_, _-_, _≤_, _<_, suc-le-suc}
+use mathlib.Core.Path.{_≡_, refl, sym, _∙_, ap, ap₂}
+use native.Mathlib.Nat.{le-step, le-of-suc-le-suc, lt-suc-self, add-zero, zero-add, add-suc, suc-add, add-sub-of-le, add-mul, mul-add, mul-left-comm, mul-le-mul}
 use native.Mathlib.Omega.{arith}
-use Rattle.model.specs.Number.{sum, choose, factorial, triangle, binomialSum}
+use Rattle.model.specs.Number.{sum, sumBetween, choose, factorial, triangle, binomialSum}
 
 -- ---- sums
 
@@ -44,6 +44,40 @@ pub sum-first : (n : ℕ) (f : ℕ → ℕ) → sum (suc n) f ≡ f 0 + sum n (�
 unfolding sum
 sum-first zero f = omega arith
 sum-first (suc n) f = omega (arith, sum-first n f)
+
+-- The first and the last term of a sum from k to n apart. It is zero if k is past n.
+pub between-first : (n : ℕ) (f : ℕ → ℕ) {k : ℕ} → k ≤ n → sumBetween k n f ≡ f k + sumBetween (suc k) n f
+unfolding sumBetween
+between-first n f {k} l =
+    let here : suc n - k ≡ suc (n - k) = omega arith in
+    let next : suc n - suc k ≡ n - k = omega arith in
+    rw (here, next)
+    (sum-first (n - k) (λ i. f (k + i))
+    ∙ ap₂ _+_ (ap f (add-zero k)) (sum-cong (n - k) (λ i m. ap f (add-suc k i ∙ sym (suc-add k i)))))
+
+pub between-last : (n : ℕ) (f : ℕ → ℕ) {k : ℕ} → k ≤ suc n → sumBetween k (suc n) f ≡ sumBetween k n f + f (suc n)
+unfolding sumBetween sum
+between-last n f {k} l =
+    let more : suc (suc n) - k ≡ suc (suc n - k) = omega arith in
+    rw more (ap (λ z. sum (suc n - k) (λ i. f (k + i)) + f z) (add-sub-of-le l))
+
+pub between-none : (n : ℕ) (f : ℕ → ℕ) {k : ℕ} → n < k → sumBetween k n f ≡ 0
+unfolding sumBetween sum
+between-none n f {k} l = let none : suc n - k ≡ 0 = omega arith in rw none
+
+-- The sums from 1, from 2, up to that from n have term j in them j times.
+pub between-total : (n : ℕ) (f : ℕ → ℕ) → sum n (λ i. sumBetween (suc i) n f) ≡ sum (suc n) (λ j. j * f j)
+unfolding sum
+between-total zero f = omega arith
+between-total (suc n) f =
+    omega (
+      arith,
+      sum-cong (suc n) {f = λ i. sumBetween (suc i) (suc n) f} (λ i l. between-last n f l),
+      sum-plus (suc n) (λ i. sumBetween (suc i) n f) (λ i. f (suc n)),
+      sum-const (suc n) (f (suc n)),
+      between-none n f (lt-suc-self n),
+      between-total n f,
+    )
 
 -- ---- binomial counts
 
