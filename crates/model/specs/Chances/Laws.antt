@@ -20,7 +20,7 @@ module _ (r : Chances) where
   -- The tail at k is the chance of k defaults plus the tail at k + 1.
   pub tail-next : {k : ℕ} → k ≤ r .assets → tailNumerator r k ≡ r .numerator k + tailNumerator r (suc k)
   unfolding tailNumerator
-  tail-next l = between-first (r .assets) (r .numerator) l
+  tail-next l = omega (arith, between-first (r .assets) (r .numerator) l)
 
   -- There are no more than n defaults.
   pub tail-past : {k : ℕ} → r .assets < k → tailNumerator r k ≡ 0
@@ -75,7 +75,7 @@ raised-cut most a (suc b) = by-order (ltb a (suc b)) refl
 -- The loss units in whole numbers alone.
 pub loss-units-whole : (n R A B X : ℕ) → lossUnits n R A B X ≡ min (X * complement R - A * n) ((B - A) * n)
 unfolding lossUnits
-loss-units-whole n R A B X = raised-cut ((B - A) * n) (X * complement R) (A * n)
+loss-units-whole n R A B X = rw raised-cut (omega arith)
 
 module _ (n R A B : ℕ) where
   pub loss-units-at-most : (X : ℕ) → lossUnits n R A B X ≤ (B - A) * n

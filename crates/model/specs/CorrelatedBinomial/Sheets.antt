@@ -5,11 +5,12 @@ use mathlib.Core.Path.{_≡_, refl, ap}
 use mathlib.Core.List.{List, [], _∷_, _++_}
 use native.Mathlib.Nat.{one-le-pow}
 use lib.Dec.{lit<}
-use Rattle.model.specs.Number.{sum, choose, integerSum, signed, alternatingSum, triangle, cut, raise}
+use Rattle.model.specs.Number.{sum, choose, binomialSum, integerSum, signed, alternatingSum, triangle, cut, raise}
 use Rattle.model.specs.Fraction.{Fraction, Same, whole, complement, over}
+use Rattle.model.specs.Passes.{pass, passed}
 use Rattle.model.specs.Chances.{share, chance, lossUnits, lossNumerator, expectedLoss}
 use Rattle.model.specs.Chances.Laws.{loss-of-last}
-use Rattle.model.specs.CorrelatedBinomial.{conditional, joint, scaledJoint, closedForm, probability, defaults}
+use Rattle.model.specs.CorrelatedBinomial.{conditional, joint, scaledJoint, closedForm, probability, defaults, withoutSubtraction, passStep, rowEntry}
 
 -- A decimal figure: n / 10^places.
 decimal : (n places : ℕ) → Fraction
@@ -28,7 +29,8 @@ abbrev pub Every : List Line → Type 0
 Every [] = Unit
 Every (l ∷ ls) = Same (l .exact) (l .figure) × Every ls
 
--- Sheets 1 to 6 are of the pool T: 3 assets, p = 1000, ρ = 3000. Sheets 4 to 6 have recovery 4000.
+-- Sheets 1 to 6 are of the pool T: 3 assets, p = 1000, ρ = 3000. Sheets 4 to 6 have recovery 4000. Sheet 2 stands there by the closed form, by the form
+-- without subtraction and by the passes.
 small : List Line
 unfolding defaults
 small =
@@ -39,6 +41,13 @@ small =
     ∷ line 2 (probability 1000 3000 1 3) (decimal 46683 6)
     ∷ line 2 (probability 1000 3000 2 3) (decimal 16317 6)
     ∷ line 2 (probability 1000 3000 3 3) (decimal 20683 6)
+    ∷ line 2 (over (withoutSubtraction 1000 3000 0 2) (triangle 3)) (decimal 790317 6)
+    ∷ line 2 (over (withoutSubtraction 1000 3000 1 2) (triangle 3)) (decimal 46683 6)
+    ∷ line 2 (over (withoutSubtraction 1000 3000 2 2) (triangle 3)) (decimal 16317 6)
+    ∷ line 2 (over (rowEntry 1000 3000 3 0) (triangle 3)) (decimal 790317 6)
+    ∷ line 2 (over (rowEntry 1000 3000 3 1) (triangle 3)) (decimal 46683 6)
+    ∷ line 2 (over (rowEntry 1000 3000 3 2) (triangle 3)) (decimal 16317 6)
+    ∷ line 2 (over (rowEntry 1000 3000 3 3) (triangle 3)) (decimal 20683 6)
     ∷ line 3 (chance (defaults 3 1000 3000) 0) (decimal 790317 6)
     ∷ line 3 (chance (defaults 3 1000 3000) 1) (decimal 140049 6)
     ∷ line 3 (chance (defaults 3 1000 3000) 2) (decimal 48951 6)
@@ -67,23 +76,19 @@ large = line 10 (expectedLoss (defaults 64 1 0) 0 9999 10000 (lit< tt)) (decimal
 pub table : List Line
 table = small ++ (large ∷ [])
 
--- The two cross products of each line.
-exact-products : List Line → List ℕ
-exact-products [] = []
-exact-products (l ∷ ls) = l .exact .num * l .figure .den ∷ exact-products ls
+-- The numerator of the one times the denominator of the other, for each line.
+products : (Line → Fraction) → (Line → Fraction) → List Line → List ℕ
+products f g [] = []
+products f g (l ∷ ls) = (f l) .num * (g l) .den ∷ products f g ls
 
-figure-products : List Line → List ℕ
-figure-products [] = []
-figure-products (l ∷ ls) = l .figure .num * l .exact .den ∷ figure-products ls
-
-by-products : (ls : List Line) → exact-products ls ≡ figure-products ls → Every ls
-unfolding exact-products figure-products
+by-products : (ls : List Line) → products (λ l. l .exact) (λ l. l .figure) ls ≡ products (λ l. l .figure) (λ l. l .exact) ls → Every ls
+unfolding products
 by-products [] e = tt
 by-products (l ∷ ls) e = (record { cross = cc }, by-products ls (cc))
 
 -- The small lines are computed.
 small-holds : Every small
-unfolding small line exact-products figure-products decimal over triangle whole complement conditional joint scaledJoint closedForm probability defaults choose sum integerSum signed alternatingSum share chance cut raise lossUnits lossNumerator expectedLoss
+unfolding small line products decimal over triangle whole complement conditional joint scaledJoint closedForm probability defaults withoutSubtraction binomialSum passStep pass passed rowEntry choose sum integerSum signed alternatingSum share chance cut raise lossUnits lossNumerator expectedLoss
 small-holds = by-products small refl
 
 -- Sheet 10: the terms with no loss units drop out, and the one that is left, m_64 times 64, is computed.

@@ -2,22 +2,20 @@
 -- Assumes nothing.
 use Prim.Native.Nat.{ℕ, zero, suc, _+_, _*_, _-_, _≤_, _<_, suc-le-suc}
 use mathlib.Core.Path.{_≡_, refl, sym, _∙_, ap, ap₂}
-use native.Mathlib.Nat.{le-step, le-of-suc-le-suc, lt-suc-self, add-zero, zero-add, add-suc, suc-add, add-sub-of-le, add-mul, mul-add, mul-left-comm, mul-le-mul}
+use native.Mathlib.Nat.{le-step, le-of-suc-le-suc, le-of-eq, le-antisymm, lt-suc-self, add-zero, zero-add, add-suc, suc-add, add-sub-of-le, add-mul, mul-add, mul-left-comm, mul-le-mul}
 use native.Mathlib.Omega.{arith}
 use Rattle.model.specs.Number.{sum, sumBetween, choose, factorial, triangle, binomialSum}
 
 -- ---- sums
 
--- Sums of terms that agree are equal.
-pub sum-cong : (n : ℕ) {f g : ℕ → ℕ} → ((i : ℕ) → i < n → f i ≡ g i) → sum n f ≡ sum n g
-unfolding sum
-sum-cong zero h = refl
-sum-cong (suc n) h = omega (arith, sum-cong n (λ i l. h i (le-step l)), h n (lt-suc-self n))
-
 pub sum-mono : (n : ℕ) {f g : ℕ → ℕ} → ((i : ℕ) → i < n → f i ≤ g i) → sum n f ≤ sum n g
 unfolding sum
 sum-mono zero h = omega arith
 sum-mono (suc n) h = omega (arith, sum-mono n (λ i l. h i (le-step l)), h n (lt-suc-self n))
+
+-- Sums of terms that agree are equal.
+pub sum-cong : (n : ℕ) {f g : ℕ → ℕ} → ((i : ℕ) → i < n → f i ≡ g i) → sum n f ≡ sum n g
+sum-cong n h = le-antisymm (sum-mono n (λ i l. le-of-eq (h i l))) (sum-mono n (λ i l. le-of-eq (sym (h i l))))
 
 pub sum-plus : (n : ℕ) (f g : ℕ → ℕ) → sum n (λ i. f i + g i) ≡ sum n f + sum n g
 unfolding sum
