@@ -20,6 +20,14 @@ pub record Same (x y : Fraction) : Type 0 where
 pub record AtMost (x y : Fraction) : Type 0 where
   pub cross : x .num * y .den ≤ y .num * x .den
 
+-- x < y
+pub record Less (x y : Fraction) : Type 0 where
+  pub cross : x .num * y .den < y .num * x .den
+
+-- A whole number.
+unfoldable pub integer : ℕ → Fraction
+integer n = record { num = n; den = 1; positive = lit< tt }
+
 unfoldable pub certainty : Fraction
 certainty = record { num = 1; den = 1; positive = lit< tt }
 
@@ -30,6 +38,18 @@ plus x y = record {
   den = x .den * y .den;
   positive = mul-pos (x .positive) (y .positive);
 }
+
+-- x × y
+unfoldable pub times : Fraction → Fraction → Fraction
+times x y = record {
+  num = x .num * y .num;
+  den = x .den * y .den;
+  positive = mul-pos (x .positive) (y .positive);
+}
+
+-- x / m
+unfoldable pub divided : Fraction → (m : ℕ) → 0 < m → Fraction
+divided x m above = record { num = x .num; den = x .den * m; positive = mul-pos (x .positive) above }
 
 -- One in basis points.
 unfoldable pub whole : ℕ

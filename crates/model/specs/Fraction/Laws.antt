@@ -1,10 +1,21 @@
 -- Laws of fractions and basis points.
 -- Assumes nothing.
-use Prim.Native.Nat.{ℕ, _+_, _*_, _≤_}
+use Prim.Native.Nat.{ℕ, _+_, _*_, _≤_, _<_}
 use mathlib.Core.Path.{_≡_, ap}
-use native.Mathlib.Nat.{add-sub-of-le, eq-of-mul-eq-mul-right}
+use mathlib.Core.Logic.{_⊎_, inl, inr}
+use native.Mathlib.Decide.{decLe}
+use native.Mathlib.Nat.{add-sub-of-le, lt-of-not-le, mul-le-mul, mul-le-mul-right, mul-lt-mul-of-pos-right}
+use native.Mathlib.Nat.{eq-of-mul-eq-mul-right, le-of-mul-le-mul-right, lt-of-mul-lt-mul-right}
 use native.Mathlib.Omega.{arith}
-use Rattle.model.specs.Fraction.{Fraction, Same, whole, complement}
+use Rattle.model.specs.Fraction.{Fraction, Same, AtMost, Less, plus, times, divided, whole, complement}
+
+-- ---- equality and order
+
+pub same-refl : {x : Fraction} → Same x x
+same-refl = omega arith
+
+pub same-sym : {x y : Fraction} → Same x y → Same y x
+same-sym e = omega arith
 
 pub same-trans : {x y z : Fraction} → Same x y → Same y z → Same x z
 same-trans {x} {y} {z} e f = record {
@@ -12,6 +23,78 @@ same-trans {x} {y} {z} e f = record {
       eq-of-mul-eq-mul-right (y .den) (y .positive) (x .num * z .den) (z .num * x .den)
       (omega (arith, ap (λ n. n * z .den) (e .cross), ap (λ n. n * x .den) (f .cross)));
 }
+
+pub at-most-refl : {x : Fraction} → AtMost x x
+at-most-refl = omega arith
+
+pub at-most-of-same : {x y : Fraction} → Same x y → AtMost x y
+at-most-of-same e = omega arith
+
+pub at-most-of-less : {x y : Fraction} → Less x y → AtMost x y
+at-most-of-less l = omega arith
+
+pub at-most-antisymm : {x y : Fraction} → AtMost x y → AtMost y x → Same x y
+at-most-antisymm l m = omega arith
+
+pub not-both : {x y : Fraction} → AtMost x y → Less y x → ⊥
+not-both l m = omega arith
+
+pub at-most-or-less : (x y : Fraction) → AtMost x y ⊎ Less y x
+at-most-or-less x y = elim (decLe (x .num * y .den) (y .num * x .den)) [
+  | yes l ↦ inl (record { cross = l })
+  | no l ↦ inr (record { cross = lt-of-not-le l })
+]
+
+pub at-most-trans : {x y z : Fraction} → AtMost x y → AtMost y z → AtMost x z
+at-most-trans {x} {y} {z} l m = record {
+  cross =
+      le-of-mul-le-mul-right {k = y .den}
+      (omega (arith, mul-le-mul-right (z .den) (l .cross), mul-le-mul-right (x .den) (m .cross))) (y .positive);
+}
+
+pub less-at-most-trans : {x y z : Fraction} → Less x y → AtMost y z → Less x z
+less-at-most-trans {x} {y} {z} l m = record {
+  cross =
+      lt-of-mul-lt-mul-right (y .den)
+      (omega (arith, mul-lt-mul-of-pos-right (l .cross) (z .positive), mul-le-mul-right (x .den) (m .cross)));
+}
+
+pub at-most-less-trans : {x y z : Fraction} → AtMost x y → Less y z → Less x z
+at-most-less-trans {x} {y} {z} l m = record {
+  cross =
+      lt-of-mul-lt-mul-right (y .den)
+      (omega (arith, mul-le-mul-right (z .den) (l .cross), mul-lt-mul-of-pos-right (m .cross) (x .positive)));
+}
+
+-- ---- sums, products, quotients
+
+pub plus-mono : {x y v w : Fraction} → AtMost x y → AtMost v w → AtMost (plus x v) (plus y w)
+unfolding plus
+plus-mono {x} {y} {v} {w} l m =
+    omega (arith, mul-le-mul-right (v .den * w .den) (l .cross), mul-le-mul-right (x .den * y .den) (m .cross))
+
+pub times-mono : {x y v w : Fraction} → AtMost x y → AtMost v w → AtMost (times x v) (times y w)
+unfolding times
+times-mono l m = omega (arith, mul-le-mul (l .cross) (m .cross))
+
+pub divided-mono : {x y : Fraction} (m : ℕ) (above : 0 < m) → AtMost x y → AtMost (divided x m above) (divided y m above)
+unfolding divided
+divided-mono m above l = omega (arith, mul-le-mul-right m (l .cross))
+
+pub plus-same : {x y v w : Fraction} → Same x y → Same v w → Same (plus x v) (plus y w)
+plus-same e f = at-most-antisymm
+    (plus-mono (at-most-of-same e) (at-most-of-same f))
+    (plus-mono (at-most-of-same (same-sym e)) (at-most-of-same (same-sym f)))
+
+pub times-same : {x y v w : Fraction} → Same x y → Same v w → Same (times x v) (times y w)
+times-same e f = at-most-antisymm
+    (times-mono (at-most-of-same e) (at-most-of-same f))
+    (times-mono (at-most-of-same (same-sym e)) (at-most-of-same (same-sym f)))
+
+pub divided-same : {x y : Fraction} (m : ℕ) (above : 0 < m) → Same x y → Same (divided x m above) (divided y m above)
+divided-same m above e = at-most-antisymm (divided-mono m above (at-most-of-same e)) (divided-mono m above (at-most-of-same (same-sym e)))
+
+-- ---- basis points
 
 pub complement-law : {x : ℕ} → x ≤ whole → x + complement x ≡ whole
 unfolding complement

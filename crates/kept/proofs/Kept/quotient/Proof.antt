@@ -1,0 +1,21 @@
+-- `Kept::quotient` meets its contract.
+-- Assumes nothing.
+use borrow.Author.Needs.{needs}
+use lib.Dec.{lit<}
+use Rattle.kept.specs.Rounding.{quotient}
+use Rattle.kept.specs.Rounding.Exponents.{reach-back}
+use Rattle.kept.proofs.Kept.quotient.Statement.{statement}
+use Rattle.kept.proofs.Kept.quotient.Tie as tie
+
+cast-ratio : tie.Need-cast-ratio
+cast-ratio c = search needs
+
+ratio-requires : tie.Need-ratio-requires
+ratio-requires c κs = search needs
+
+returns : tie.Need-returns
+unfolding quotient
+returns c = rw (reach-back (lit< tt) (c .before .before .before .pre .0 .reach)) at (c .ratio .ensures)
+
+pub quotient-spec : {M : Type 1} → statement M
+quotient-spec = tie.close (tie.spec cast-ratio ratio-requires returns)

@@ -1,0 +1,13 @@
+-- `Kept::zero` meets its contract.
+-- Assumes nothing.
+use mathlib.Core.Path.{refl}
+use Rattle.kept.specs.Rounding.{nought}
+use Rattle.kept.proofs.Kept.zero.Statement.{statement}
+use Rattle.kept.proofs.Kept.zero.Tie as tie
+
+returns : tie.Need-returns
+unfolding nought
+returns c = refl
+
+pub zero-spec : {M : Type 1} → statement M
+zero-spec = tie.close (tie.spec returns)

@@ -1,0 +1,2 @@
+pub mod Rounding
+pub mod Accuracy

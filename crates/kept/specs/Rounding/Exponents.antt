@@ -1,0 +1,77 @@
+-- Sums and differences of exponents within their reach.
+-- Assumes nothing.
+use Prim.Native.Nat.{ℕ, zero, suc, _+_, _-_, _≤_, _<_, _^_, suc-le-suc}
+use mathlib.Core.Path.{_≡_, refl}
+use mathlib.Core.Bool.{Bool, true, false, cond}
+use native.Mathlib.Nat.{le-of-lt}
+use native.Mathlib.Omega.{arith}
+use lib.Dec.{T, ltb, leb→le, le→leb, ltb→lt}
+use lib.Signed.{_≤ℤ_, ltZ, leZ, ltZ-no, nonNeg}
+use lib.IntN.{ℤ, pos, negsuc, negℤ, natAbs, subℕ, _+ℤ_, _-ℤ_}
+use borrow.Author.Tests.{ltb-true, ltb-false, le-ltb}
+use mir.Syntax.{w32}
+use mir.Val.{SFits, toZ, ofZ}
+use mir.Facts.{toZ-ofZ}
+use Rattle.kept.specs.Rounding.{Reach}
+
+difference : (a b : ℕ) → natAbs (subℕ a b) ≤ a + b
+difference a b = by-order (ltb a b) refl
+  where
+    by-order : (t : Bool) → ltb a b ≡ t → natAbs (cond t (negsuc (b - suc a)) (pos (a - b))) ≤ a + b
+    by-order true test = omega (arith, ltb-true a b test)
+    by-order false test = omega (arith, ltb-false a b test)
+
+total : (e f : ℤ) → natAbs (e +ℤ f) ≤ natAbs e + natAbs f
+total (pos a) (pos b) = omega arith
+total (pos a) (negsuc b) = difference a (suc b)
+total (negsuc a) (pos b) = omega (arith, difference b (suc a))
+total (negsuc a) (negsuc b) = omega arith
+
+negated : (e : ℤ) → natAbs (negℤ e) ≡ natAbs e
+negated (pos zero) = refl
+negated (pos (suc n)) = refl
+negated (negsuc n) = refl
+
+pub reach-plus : {n m : ℕ} {e f : ℤ} → Reach n e → Reach m f → Reach (n + m) (e +ℤ f)
+reach-plus {e} {f} r q = record { within = omega (arith, total e f) }
+
+pub reach-minus : {n m : ℕ} {e f : ℤ} → Reach n e → Reach m f → Reach (n + m) (e -ℤ f)
+reach-minus {e} {f} r q = record { within = omega (arith, total e (negℤ f), negated f) }
+
+pub reach-whole : {n m : ℕ} → n ≤ m → Reach m (pos n)
+reach-whole le = record { within = le }
+
+pub reach-weaken : {n m : ℕ} {e : ℤ} → n ≤ m → Reach n e → Reach m e
+reach-weaken le r = omega arith
+
+pub reach-fits : {n : ℕ} {e : ℤ} → n < 2 ^ 31 → Reach n e → SFits w32 e
+reach-fits {e = pos n} less r = record { sfits = omega arith }
+reach-fits {e = negsuc n} less r = record { sfits = omega arith }
+
+-- Within an i32's reach an exponent is what its bits stand for.
+pub reach-back : {n : ℕ} {e : ℤ} → n < 2 ^ 31 → Reach n e → toZ w32 (ofZ w32 e) ≡ e
+reach-back less r = toZ-ofZ (reach-fits less r)
+
+-- ---- two exponents in order
+
+less : (e f : ℤ) → T (ltZ e f) → T (leZ e f)
+less (pos a) (pos b) t = le→leb a b (le-of-lt (ltb→lt a b t))
+less (pos a) (negsuc b) t = t
+less (negsuc a) (pos b) t = t
+less (negsuc a) (negsuc b) t = le→leb b a (le-of-lt (ltb→lt b a t))
+
+pub order-yes : {e f : ℤ} → ltZ e f ≡ true → e ≤ℤ f
+order-yes {e} {f} test = record { le = less e f (rw test tt) }
+
+pub order-no : {e f : ℤ} → ltZ e f ≡ false → f ≤ℤ e
+order-no test = ltZ-no (rw test tt)
+
+above-zero : (a b : ℕ) → b ≤ a → T (nonNeg (subℕ a b))
+above-zero a b le = rw (le-ltb a b le) tt
+
+pub ordered-difference : (e f : ℤ) → f ≤ℤ e → T (nonNeg (e -ℤ f))
+ordered-difference (pos a) (pos zero) le = tt
+ordered-difference (pos a) (pos (suc b)) le = above-zero a (suc b) (leb→le (suc b) a (le .le))
+ordered-difference (pos a) (negsuc b) le = tt
+ordered-difference (negsuc a) (pos b) le = absurd (le .le)
+ordered-difference (negsuc a) (negsuc b) le = above-zero (suc b) (suc a) (suc-le-suc (leb→le a b (le .le)))

@@ -1,0 +1,205 @@
+-- What rounding is: the greatest kept number not above, or the least not below. All else follows from that.
+-- Assumes nothing.
+use Prim.Native.Nat.{ℕ, zero, suc, _+_, _-_, _*_, _/_, _%_, _^_, _≤_, _<_}
+use mathlib.Core.Path.{_≡_, refl, sym, ap, _∙_}
+use mathlib.Core.Logic.{_⊎_, inl, inr}
+use mathlib.Core.Bool.{Bool, true, false, cond}
+use native.Mathlib.Nat.{pos-of-ne-zero, mul-le-mul-left, mul-le-mul-right, mul-lt-mul-of-pos-left, mul-pos, pow-succ', le-div-iff-mul-le, div-lt-iff-lt-mul, div-add-mod', mod-lt, lt-of-not-le, le-trans, lt-of-lt-of-le, not-le-of-lt, eq-of-mul-eq-mul-right}
+use native.Mathlib.Omega.{arith}
+use lib.Dec.{eqb}
+use lib.Pow.{pow-add, pow-pos, pow-mono}
+use lib.IntN.{ℤ, pos, _+ℤ_}
+use lib.Ieee.{up, down, minus, size}
+use lib.Ieee.Fits.{up-pos, down-pos}
+use lib.Ieee.Digits.{minus-val, size-lt, size-reaches}
+use borrow.Author.Tests.{eqb-true, eqb-false}
+use Rattle.model.specs.Fraction.{Fraction, Same, AtMost, Less}
+use Rattle.model.specs.Fraction.Laws.{same-refl, same-sym, same-trans, at-most-refl, at-most-trans, at-most-of-same, at-most-of-less, at-most-antisymm, less-at-most-trans, at-most-less-trans}
+use Rattle.kept.specs.declared.Kept.{Kept}
+use Rattle.kept.specs.declared.Side.{Side}
+use Rattle.kept.specs.declared.Side.the-variants.{Low, High}
+use Rattle.kept.specs.Rounding.{scaled, value, nought, Normal, IsKept, OnSide, Rounded, step, carry, round}
+use Rattle.kept.specs.Rounding.Powers.{scaled-shift, exponents}
+use Rattle.kept.specs.Rounding.Leading.{Between, Adjacent, rounded-leading, adjacent-leading}
+
+-- ---- a value has one kept number
+
+scaled-positive : (s : ℕ) (e : ℤ) → 0 < s → Same (scaled s e) (value nought) → ⊥
+unfolding scaled nought
+scaled-positive s e above same = omega (arith, mul-pos above (up-pos e), same .cross)
+
+scaled-factor : (s t : ℕ) (e : ℤ) → Same (scaled s e) (scaled t e) → s ≡ t
+unfolding scaled
+scaled-factor s t e same =
+    eq-of-mul-eq-mul-right (up e * down e) (mul-pos (up-pos e) (down-pos e)) s t (omega (arith, same .cross))
+
+-- A kept number that is a multiple of a higher power of two has another value.
+apart : {s t : ℕ} → Normal s → Normal t → (e f : ℤ) (k : ℕ) → f ≡ e +ℤ pos (suc k) → Same (scaled s e) (scaled t f) → ⊥
+apart {s} {t} n m e f k is same =
+    let equal : s ≡ t * 2 ^ suc k = scaled-factor s (t * 2 ^ suc k) e (same-trans same (scaled-shift t e (suc k) is)) in
+    omega (arith, rw pow-succ' at equal, mul-le-mul-left t (pow-pos k))
+
+normal-positive : {s : ℕ} → Normal s → 0 < s
+normal-positive n = omega arith
+
+pub kept-unique : {x y : Kept} → IsKept x → IsKept y → Same (value x) (value y) → x ≡ y
+kept-unique {x} {y} k l = by-forms (k .form) (l .form)
+  where
+    by-forms : (x ≡ nought) ⊎ Normal (x .significand) → (y ≡ nought) ⊎ Normal (y .significand) → Same (value x) (value y) → x ≡ y
+    by-forms (inl is) (inl js) same = cc
+    by-forms (inl is) (inr m) same =
+        absurd (scaled-positive (y .significand) (y .exponent) (normal-positive m) (same-sym (rw is at same)))
+    by-forms (inr n) (inl js) same =
+        absurd (scaled-positive (x .significand) (x .exponent) (normal-positive n) (rw js at same))
+    by-forms (inr n) (inr m) same = elim (exponents (x .exponent) (y .exponent)) [
+      | inl is ↦
+          let equal : x .significand ≡ y .significand = scaled-factor (x .significand) (y .significand) (x .exponent) (rw is at same) in
+          ap (λ s. record { significand = s; exponent = x .exponent }) equal
+          ∙ ap (λ e. record { significand = y .significand; exponent = e }) (sym is)
+      | inr (inl (k, is)) ↦ absurd (apart n m (x .exponent) (y .exponent) k is same)
+      | inr (inr (k, is)) ↦ absurd (apart m n (y .exponent) (x .exponent) k is (same-sym same))
+    ]
+
+-- ---- the leading digits of a fraction
+
+dyadic : ℕ → ℕ → Fraction
+dyadic n a = record { num = n; den = 2 ^ a; positive = pow-pos a }
+
+module _ (z : Fraction) (a b : ℕ) where
+  abbrev n : ℕ
+  n = z .num * 2 ^ a
+
+  abbrev u : ℕ
+  u = z .den * 2 ^ b
+
+  scaled-dyadic : (s : ℕ) → Same (scaled s (minus b a)) (dyadic (s * 2 ^ b) a)
+  unfolding scaled dyadic
+  scaled-dyadic s = record { cross = minus-val s b a }
+
+  between-cut : Between (n / u) (n % u) (minus b a) z
+  unfolding dyadic
+  between-cut =
+      let whole : n / u * u + n % u ≡ n = div-add-mod' n u in
+      let rest : n % u < u = mod-lt n (mul-pos (z .positive) (pow-pos b)) in
+      record {
+        from = at-most-trans (at-most-of-same (scaled-dyadic (n / u))) (record { cross = omega arith });
+        to = less-at-most-trans (record { cross = omega arith }) (at-most-of-same (same-sym (scaled-dyadic (suc (n / u)))));
+        none = λ is. at-most-trans (record { cross = omega arith }) (at-most-of-same (same-sym (scaled-dyadic (n / u))));
+        some = λ above. at-most-less-trans (at-most-of-same (scaled-dyadic (n / u))) (record { cross = omega arith });
+      }
+
+  normal-cut : 2 ^ 31 * u ≤ n → n < 2 ^ 32 * u → Normal (n / u)
+  normal-cut least below =
+      let above : 0 < u = mul-pos (z .positive) (pow-pos b) in
+      record { least = le-div-iff-mul-le above .1 least; below = div-lt-iff-lt-mul above .1 below }
+
+-- How far `round` scales z up makes the whole part 33 digits at least; so cut to 32 it is a significand.
+module _ (z : Fraction) (above : 0 < z .num) where
+  abbrev a : ℕ
+  a = 32 + size (z .den)
+
+  abbrev digits : ℕ
+  digits = size (z .num * 2 ^ a / z .den)
+
+  digits-many : 32 < digits
+  digits-many =
+      let least : 2 ^ 32 ≤ z .num * 2 ^ a / z .den =
+          le-div-iff-mul-le (z .positive) .1
+          (rw (pow-add 2 32 (size (z .den)))
+          (omega (arith, mul-le-mul-right (2 ^ size (z .den)) above, size-lt (z .den)))) in
+      lt-of-not-le (λ few. not-le-of-lt (lt-of-lt-of-le (size-lt (z .num * 2 ^ a / z .den)) (pow-mono few)) least)
+
+  normal-leading : Normal (z .num * 2 ^ a / (z .den * 2 ^ (digits - 32)))
+  normal-leading =
+      let b = digits - 32 in
+      let many = digits-many in
+      let one-less : 31 + b ≡ digits - 1 = omega arith in
+      let all : 32 + b ≡ digits = omega arith in
+      let least : 2 ^ (31 + b) ≤ z .num * 2 ^ a / z .den = rw one-less (size-reaches (z .num * 2 ^ a / z .den) (digits - 1) (omega arith)) in
+      let below : z .num * 2 ^ a / z .den < 2 ^ (32 + b) = rw all (size-lt (z .num * 2 ^ a / z .den)) in
+      normal-cut z a b
+      (omega (arith, ap (λ k. k * z .den) (pow-add 2 31 b), le-div-iff-mul-le (z .positive) .0 least))
+      (omega (arith, ap (λ k. k * z .den) (pow-add 2 32 b), div-lt-iff-lt-mul (z .positive) .0 below))
+
+-- ---- rounding
+
+side-of-same : (side : Side) {x y : Fraction} → Same x y → OnSide side x y
+side-of-same Low same = at-most-of-same same
+side-of-same High same = at-most-of-same (same-sym same)
+
+side-trans : (side : Side) (x : Fraction) {y z : Fraction} → OnSide side x y → Same y z → OnSide side x z
+side-trans Low x on same = at-most-trans on (at-most-of-same same)
+side-trans High x on same = at-most-trans (at-most-of-same (same-sym same)) on
+
+side-antisymm : (side : Side) (x y : Fraction) → OnSide side x y → OnSide side y x → Same x y
+side-antisymm Low x y l m = at-most-antisymm l m
+side-antisymm High x y l m = at-most-antisymm m l
+
+module _ (side : Side) {z : Fraction} {x : Kept} where
+  rounded-exact : IsKept x → Same (value x) z → Rounded side z x
+  rounded-exact kept same = record {
+    kept = kept;
+    on-side = side-of-same side same;
+    best = λ y _ on. side-trans side (value y) on (same-sym same);
+  }
+
+  rounded-unique : {y : Kept} → Rounded side z x → Rounded side z y → x ≡ y
+  rounded-unique {y} r q =
+      kept-unique (r .kept) (q .kept)
+      (side-antisymm side (value x) (value y) (q .best x (r .kept) (r .on-side)) (r .best y (q .kept) (q .on-side)))
+
+  rounded-same : {w : Fraction} → Same z w → Rounded side z x → Rounded side w x
+  rounded-same same r = record {
+    kept = r .kept;
+    on-side = side-trans side (value x) (r .on-side) same;
+    best = λ y kept on. r .best y kept (side-trans side (value y) on (same-sym same));
+  }
+
+nought-kept : IsKept nought
+nought-kept = record { form = inl refl }
+
+pub nought-same : (z : Fraction) → z .num ≡ 0 → Same (value nought) z
+unfolding nought scaled
+nought-same z is = record { cross = omega (arith, ap (λ n. n * 1) is) }
+
+-- The greatest kept number not above z, or the least not below it.
+pub round-is : (side : Side) (z : Fraction) → Rounded side z (round side z)
+unfolding round
+round-is side z =
+    by-test
+    (λ above. rounded-leading side _ (normal-leading z above) (between-cut z (a z above) (digits z above - 32)))
+    (eqb (z .num) 0) refl
+  where
+    by-test : {x : Kept} → (0 < z .num → Rounded side z x) → (t : Bool) → eqb (z .num) 0 ≡ t → Rounded side z (cond t nought x)
+    by-test else true test = rounded-exact side nought-kept (nought-same z (eqb-true (z .num) 0 test))
+    by-test else false test = else (pos-of-ne-zero (eqb-false (z .num) 0 test))
+
+module _ (side : Side) where
+  -- It is the only one.
+  pub round-only : {z : Fraction} {x : Kept} → Rounded side z x → x ≡ round side z
+  round-only {z} r = rounded-unique side r (round-is side z)
+
+  pub round-same : {z w : Fraction} → Same z w → round side z ≡ round side w
+  round-same {z} {w} same = round-only (rounded-same side same (round-is side z))
+
+  pub round-exact : {z : Fraction} {x : Kept} → IsKept x → Same (value x) z → x ≡ round side z
+  round-exact kept same = round-only (rounded-exact side kept same)
+
+  -- The rounding of a number whose leading digits are s, r being what is left below them.
+  pub round-leading : (r : ℕ) {s : ℕ} {e : ℤ} {z : Fraction} → Normal s → Between s r e z → carry (s + step side r) e ≡ round side z
+  round-leading r normal between = round-only (rounded-leading side r normal between)
+
+  pub round-nought : (z : Fraction) → z .num ≡ 0 → nought ≡ round side z
+  round-nought z is = round-exact nought-kept (nought-same z is)
+
+-- Rounding keeps order.
+pub round-mono : (side : Side) {z w : Fraction} → AtMost z w → AtMost (value (round side z)) (value (round side w))
+round-mono Low {z} {w} le = round-is Low w .best (round Low z) (round-is Low z .kept) (at-most-trans (round-is Low z .on-side) le)
+round-mono High {z} {w} le = round-is High z .best (round High w) (round-is High w .kept) (at-most-trans le (round-is High w .on-side))
+
+-- A number above zero and its rounding lie between the same two neighbours.
+pub round-adjacent : (side : Side) (z : Fraction) → 0 < z .num → Adjacent (value (round side z)) z
+round-adjacent side z above =
+    let normal = normal-leading z above in
+    let between = between-cut z (a z above) (digits z above - 32) in
+    rw (← round-leading side _ normal between) (adjacent-leading side _ normal between)

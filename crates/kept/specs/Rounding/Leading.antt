@@ -1,0 +1,147 @@
+-- The leading digits of a fraction, and its rounding from them.
+-- Assumes nothing.
+use Prim.Native.Nat.{ℕ, zero, suc, _+_, _*_, _^_, _≤_, _<_}
+use mathlib.Core.Path.{_≡_, refl, sym, ap, _∙_}
+use mathlib.Core.Logic.{_⊎_, inl, inr}
+use mathlib.Core.Bool.{Bool, true, false, cond}
+use native.Mathlib.Nat.{add-zero, zero-lt-suc, mul-le-mul-left, pow-succ', lt-of-not-le}
+use native.Mathlib.Numerals.{add-one}
+use native.Mathlib.Decide.{decLe}
+use native.Mathlib.Omega.{arith}
+use lib.Dec.{eqb, lit<, lit≤}
+use lib.Arith.{lt-of-le-ne}
+use lib.Pow.{pow-pos}
+use lib.IntN.{ℤ, pos, _+ℤ_}
+use borrow.Author.Tests.{eqb-true, eqb-false}
+use Rattle.model.specs.Fraction.{Fraction, Same, AtMost, Less}
+use Rattle.model.specs.Fraction.Laws.{same-trans, same-sym, at-most-trans, at-most-of-same, at-most-of-less, less-at-most-trans, at-most-less-trans, not-both}
+use Rattle.kept.specs.declared.Kept.{Kept}
+use Rattle.kept.specs.declared.Side.{Side}
+use Rattle.kept.specs.declared.Side.the-variants.{Low, High}
+use Rattle.kept.specs.Rounding.{scaled, value, nought, Normal, IsKept, step, carry, Rounded}
+use Rattle.kept.specs.Rounding.Powers.{scaled-shift, scaled-at-most, scaled-less, exponents}
+
+-- z is s × 2^e or more, and less than (s + 1) × 2^e; r is zero exactly where z is s × 2^e.
+pub record Between (s r : ℕ) (e : ℤ) (z : Fraction) : Type 0 where
+  pub from : AtMost (scaled s e) z
+  pub to : Less z (scaled (suc s) e)
+  pub none : r ≡ 0 → AtMost z (scaled s e)
+  pub some : 0 < r → Less (scaled s e) z
+
+pub nought-least : (z : Fraction) → AtMost (value nought) z
+unfolding nought scaled
+nought-least z = record { cross = omega arith }
+
+-- ---- no kept number lies strictly between two neighbours
+
+module _ {s : ℕ} (normal : Normal s) (e : ℤ) where
+  place : {t : ℕ} → Normal t → (f : ℤ) → AtMost (scaled t f) (scaled s e) ⊎ AtMost (scaled (suc s) e) (scaled t f)
+  place {t} other f = elim (exponents e f) [
+    | inl is ↦ rw is (elim (decLe t s) [ yes le ↦ inl (scaled-at-most e le) | no le ↦ inr (scaled-at-most e (lt-of-not-le le)) ])
+    | inr (inl (k, is)) ↦
+        let double : suc s ≤ t * 2 ^ suc k = rw pow-succ' (omega (arith, mul-le-mul-left t (pow-pos k))) in
+        inr (at-most-trans (scaled-at-most e double) (at-most-of-same (same-sym (scaled-shift t e (suc k) is))))
+    | inr (inr (k, is)) ↦
+        let double : t ≤ s * 2 ^ suc k = rw pow-succ' (omega (arith, mul-le-mul-left s (pow-pos k))) in
+        inl (at-most-trans (scaled-at-most f double) (at-most-of-same (same-sym (scaled-shift s f (suc k) is))))
+  ]
+
+  pub neighbours : (y : Kept) → IsKept y → AtMost (value y) (scaled s e) ⊎ AtMost (scaled (suc s) e) (value y)
+  neighbours y kept = elim (kept .form) [ inl is ↦ rw is (inl (nought-least (scaled s e))) | inr other ↦ place other (y .exponent) ]
+
+-- ---- the carry
+
+module _ (s : ℕ) (e : ℤ) where
+  pub carry-value : Same (value (carry s e)) (scaled s e)
+  unfolding carry
+  carry-value = by-test (eqb s (2 ^ 32)) refl
+    where
+      by-test : (t : Bool) → eqb s (2 ^ 32) ≡ t
+          → Same (value (cond t (record { significand = 2 ^ 31; exponent = e +ℤ pos 1 }) (record { significand = s; exponent = e }))) (scaled s e)
+      by-test true test = rw (eqb-true s (2 ^ 32) test) (scaled-shift (2 ^ 31) e 1 refl)
+      by-test false test = omega arith
+
+  pub carry-kept : 2 ^ 31 ≤ s → s ≤ 2 ^ 32 → IsKept (carry s e)
+  unfolding carry
+  carry-kept least most = by-test (eqb s (2 ^ 32)) refl
+    where
+      by-test : (t : Bool) → eqb s (2 ^ 32) ≡ t
+          → IsKept (cond t (record { significand = 2 ^ 31; exponent = e +ℤ pos 1 }) (record { significand = s; exponent = e }))
+      by-test true test = record { form = inr (record { least = lit≤ tt; below = lit< tt }) }
+      by-test false test = record { form = inr (record { least = least; below = lt-of-le-ne most (eqb-false s (2 ^ 32) test) }) }
+
+-- ---- the rounding
+
+module _ {s r : ℕ} {e : ℤ} {z : Fraction} (normal : Normal s) (between : Between s r e z) where
+  as-low : Rounded Low z (carry s e)
+  as-low =
+      let same = carry-value s e in
+      record {
+        kept = carry-kept s e (normal .least) (omega arith);
+        on-side = at-most-trans (at-most-of-same same) (between .from);
+        best = λ y kept le. elim (neighbours normal e y kept) [
+          | inl below ↦ at-most-trans below (at-most-of-same (same-sym same))
+          | inr past ↦ absurd (not-both (at-most-trans past le) (between .to))
+        ];
+      }
+
+  as-high : r ≡ 0 → Rounded High z (carry s e)
+  as-high is =
+      let same = carry-value s e in
+      record {
+        kept = carry-kept s e (normal .least) (omega arith);
+        on-side = at-most-trans (between .none is) (at-most-of-same (same-sym same));
+        best = λ y kept le. at-most-trans (at-most-of-same same) (at-most-trans (between .from) le);
+      }
+
+  as-next : 0 < r → Rounded High z (carry (suc s) e)
+  as-next above =
+      let same = carry-value (suc s) e in
+      record {
+        kept = carry-kept (suc s) e (omega arith) (normal .below);
+        on-side = at-most-trans (at-most-of-less (between .to)) (at-most-of-same (same-sym same));
+        best = λ y kept le. elim (neighbours normal e y kept) [
+          | inl below ↦ absurd (not-both (at-most-trans le below) (between .some above))
+          | inr past ↦ at-most-trans (at-most-of-same same) past
+        ];
+      }
+
+-- The leading digits, one more on the high side where anything is left below them.
+pub rounded-leading : (side : Side) (r : ℕ) {s : ℕ} {e : ℤ} {z : Fraction} → Normal s → Between s r e z → Rounded side z (carry (s + step side r) e)
+unfolding step
+rounded-leading Low r {s} normal between = rw (add-zero s) (as-low normal between)
+rounded-leading High zero {s} normal between = rw (add-zero s) (as-high normal between refl)
+rounded-leading High (suc r) {s} normal between = rw (add-one s) (as-next normal between (zero-lt-suc r))
+
+-- ---- how far it is off
+
+-- x and z both lie from s × 2^e to (s + 1) × 2^e.
+pub record Adjacent (x z : Fraction) : Type 0 where
+  pub s : ℕ
+  pub e : ℤ
+  pub normal : Normal s
+  pub x-from : AtMost (scaled s e) x
+  pub x-to : AtMost x (scaled (suc s) e)
+  pub z-from : AtMost (scaled s e) z
+  pub z-to : AtMost z (scaled (suc s) e)
+
+pub step-at-most-one : (side : Side) (r : ℕ) → step side r ≤ 1
+unfolding step
+step-at-most-one Low r = lit≤ tt
+step-at-most-one High zero = lit≤ tt
+step-at-most-one High (suc r) = lit≤ tt
+
+pub adjacent-leading : (side : Side) (r : ℕ) {s : ℕ} {e : ℤ} {z : Fraction}
+    → Normal s → Between s r e z → Adjacent (value (carry (s + step side r) e)) z
+adjacent-leading side r {s} {e} normal between =
+    let same = carry-value (s + step side r) e in
+    let one = step-at-most-one side r in
+    record {
+      s = s;
+      e = e;
+      normal = normal;
+      x-from = at-most-trans (scaled-at-most e (omega arith)) (at-most-of-same (same-sym same));
+      x-to = at-most-trans (at-most-of-same same) (scaled-at-most e (omega arith));
+      z-from = between .from;
+      z-to = at-most-of-less (between .to);
+    }

@@ -1,0 +1,182 @@
+-- Rounding a number of which 64 digits are known: they are shifted up until the highest is set, and the upper 32 stay.
+-- Assumes nothing.
+use Prim.Native.Nat.{ℕ, suc, _+_, _-_, _*_, _/_, _%_, _^_, _≤_, _<_}
+use mathlib.Core.Path.{_≡_, sym, ap, _∙_}
+use mathlib.Core.Logic.{inl, inr}
+use native.Mathlib.Nat.{eq-zero-or-pos, eq-of-mul-eq-mul-right, mul-pos, mul-le-mul-right, mul-lt-mul-of-pos-right, lt-of-mul-lt-mul-right, le-div-iff-mul-le, div-lt-iff-lt-mul, div-add-mod', mod-lt, lt-of-not-le, lt-of-lt-of-le, not-le-of-lt, two-pow-succ}
+use native.Mathlib.Omega.{arith}
+use lib.Count.{leadingZeros, leading-top}
+use lib.Dec.{lit<}
+use lib.Pow.{pow-add, pow-pos, pow-mono}
+use lib.IntN.{ℤ, pos, negℤ, _+ℤ_, _-ℤ_, +ℤ-assoc, +ℤ-comm, -ℤ-+ℤ-cancel}
+use lib.Ieee.{up, down}
+use lib.Ieee.Fits.{up-pos, down-pos}
+use Rattle.model.specs.Fraction.{Fraction, Same, AtMost, Less, divided}
+use Rattle.model.specs.Fraction.Laws.{same-sym, at-most-trans, at-most-of-same, less-at-most-trans, at-most-less-trans, divided-same}
+use Rattle.kept.specs.declared.Kept.{Kept}
+use Rattle.kept.specs.declared.Side.{Side}
+use Rattle.kept.specs.Rounding.{scaled, nought, Normal, step, carry, round}
+use Rattle.kept.specs.Rounding.Powers.{scaled-shift, scaled-at-most, scaled-less}
+use Rattle.kept.specs.Rounding.Leading.{Between}
+use Rattle.kept.specs.Rounding.Laws.{round-leading, round-nought, round-same}
+
+-- ---- a word shifted up by its leading zeros
+
+pub record Shifted (v : ℕ) : Type 0 where
+  pub least : 2 ^ 63 ≤ v * 2 ^ leadingZeros 64 v
+  pub below : v * 2 ^ leadingZeros 64 v < 2 ^ 64
+  pub few : leadingZeros 64 v < 64
+  pub half : 2 ^ 31 ≤ v → leadingZeros 64 v ≤ 32
+
+pub shifted : {v : ℕ} → 0 < v → v < 2 ^ 64 → Shifted v
+shifted {v} above word =
+    let zeros = leadingZeros 64 v in
+    let (j, total, least, below) = leading-top 64 v above word in
+    let up : j + zeros ≡ 63 = omega arith in
+    let top : 2 ^ j * 2 ^ zeros ≡ 2 ^ 63 = sym (pow-add 2 j zeros) ∙ ap (λ k. 2 ^ k) up in
+    let past : 2 ^ suc j * 2 ^ zeros ≡ 2 ^ 64 = omega (arith, ap (λ k. k * 2 ^ zeros) (two-pow-succ j)) in
+    record {
+      least = omega (arith, mul-le-mul-right (2 ^ zeros) least);
+      below = omega (arith, mul-lt-mul-of-pos-right below (pow-pos zeros));
+      few = omega arith;
+      half = λ large.
+          let many : 31 < suc j = lt-of-not-le (λ few. not-le-of-lt (lt-of-lt-of-le below (pow-mono few)) large) in
+          omega arith;
+    }
+
+-- ---- its upper 32 digits
+
+module _ {v rest : ℕ} {e : ℤ} {z : Fraction} (word : Shifted v) (between : Between v rest e z) where
+  abbrev zeros : ℕ
+  zeros = leadingZeros 64 v
+
+  abbrev w : ℕ
+  w = v * 2 ^ zeros
+
+  abbrev q : ℕ
+  q = w / 2 ^ 32
+
+  -- the exponent of w
+  abbrev g : ℤ
+  g = e -ℤ pos zeros
+
+  normal-upper : Normal q
+  normal-upper = record {
+    least = le-div-iff-mul-le (pow-pos 32) .1 (word .least);
+    below = div-lt-iff-lt-mul (pow-pos 32) .1 (word .below);
+  }
+
+  word-at : (s : ℕ) → Same (scaled s e) (scaled (s * 2 ^ zeros) g)
+  word-at s = scaled-shift s g zeros (sym (-ℤ-+ℤ-cancel e (pos zeros)))
+
+  upper-at : (s : ℕ) → Same (scaled s (e +ℤ pos 32 -ℤ pos zeros)) (scaled (s * 2 ^ 32) g)
+  upper-at s =
+      scaled-shift s g 32
+      (+ℤ-assoc e (pos 32) (negℤ (pos zeros)) ∙ ap (λ f. e +ℤ f) (+ℤ-comm (pos 32) (negℤ (pos zeros))) ∙ sym (+ℤ-assoc e (negℤ (pos zeros)) (pos 32)))
+
+  upper : q * 2 ^ 32 + w % 2 ^ 32 ≡ w
+  upper = div-add-mod' w (2 ^ 32)
+
+  lower : w % 2 ^ 32 < 2 ^ 32
+  lower = mod-lt w (pow-pos 32)
+
+  -- The next word is not past the next upper digits, where fewer digits are shifted in than are dropped.
+  aligned : zeros ≤ 32 → suc v * 2 ^ zeros ≤ suc q * 2 ^ 32
+  aligned few =
+      let back : 32 - zeros + zeros ≡ 32 = omega arith in
+      let split : 2 ^ (32 - zeros) * 2 ^ zeros ≡ 2 ^ 32 = sym (pow-add 2 (32 - zeros) zeros) ∙ ap (λ k. 2 ^ k) back in
+      let less : v < suc q * 2 ^ (32 - zeros) =
+          lt-of-mul-lt-mul-right (2 ^ zeros) (omega (arith, upper, lower, ap (λ k. q * k) split)) in
+      omega (arith, mul-le-mul-right (2 ^ zeros) less, ap (λ k. q * k) split)
+
+  abbrev e' : ℤ
+  e' = e +ℤ pos 32 -ℤ pos zeros
+
+  -- From the upper digits to the word and back.
+  upper-at-most : AtMost (scaled q e') (scaled v e)
+  upper-at-most =
+      at-most-trans (at-most-of-same (upper-at q))
+      (at-most-trans (scaled-at-most g (omega (arith, upper))) (at-most-of-same (same-sym (word-at v))))
+
+  upper-less : 0 < w % 2 ^ 32 → Less (scaled q e') (scaled v e)
+  upper-less more =
+      at-most-less-trans (at-most-of-same (upper-at q))
+      (less-at-most-trans (scaled-less g (omega (arith, upper))) (at-most-of-same (same-sym (word-at v))))
+
+  upper-all : w % 2 ^ 32 ≡ 0 → AtMost (scaled v e) (scaled q e')
+  upper-all none =
+      at-most-trans (at-most-of-same (word-at v))
+      (at-most-trans (scaled-at-most g (omega (arith, upper))) (at-most-of-same (same-sym (upper-at q))))
+
+  upper-next : (0 < rest → zeros ≤ 32) → Less z (scaled (suc q * 2 ^ 32) g)
+  upper-next few = elim (eq-zero-or-pos rest) [
+    | inl none ↦
+        at-most-less-trans (at-most-trans (between .none none) (at-most-of-same (word-at v)))
+        (scaled-less g (omega (arith, upper, lower)))
+    | inr more ↦
+        less-at-most-trans (between .to)
+        (at-most-trans (at-most-of-same (word-at (suc v))) (scaled-at-most g (aligned (few more))))
+  ]
+
+  between-upper : (0 < rest → zeros ≤ 32) → Between q (w % 2 ^ 32 + rest) e' z
+  between-upper few = record {
+    from = at-most-trans upper-at-most (between .from);
+    to = less-at-most-trans (upper-next few) (at-most-of-same (same-sym (upper-at (suc q))));
+    none = λ none. at-most-trans (between .none (omega arith)) (upper-all (omega arith));
+    some = λ some. elim (eq-zero-or-pos rest) [
+      | inl none ↦ less-at-most-trans (upper-less (omega arith)) (between .from)
+      | inr more ↦ at-most-less-trans upper-at-most (between .some more)
+    ];
+  }
+
+-- v × 2^e, or more where rest is not zero, rounded from the upper digits of v.
+pub round-word : (side : Side) {v rest : ℕ} {e : ℤ} {z : Fraction}
+    → Shifted v → (0 < rest → 2 ^ 31 ≤ v) → Between v rest e z
+    → carry (v * 2 ^ leadingZeros 64 v / 2 ^ 32 + step side (v * 2 ^ leadingZeros 64 v % 2 ^ 32 + rest)) (e +ℤ pos 32 -ℤ pos (leadingZeros 64 v))
+    ≡ round side z
+round-word side word large between =
+    round-leading side _ (normal-upper word between) (between-upper word between (λ more. word .half (large more)))
+
+pub round-word-zero : (side : Side) {v rest : ℕ} {e : ℤ} {z : Fraction}
+    → v ≡ 0 → (0 < rest → 2 ^ 31 ≤ v) → Between v rest e z → nought ≡ round side z
+unfolding scaled
+round-word-zero side {v} {rest} {e} {z} zero large between = elim (eq-zero-or-pos rest) [
+  | inl none ↦
+      let least = between .none none in
+      round-nought side z
+      (eq-of-mul-eq-mul-right (down e) (down-pos e) (z .num) 0 (omega (arith, ap (λ n. n * (up e * z .den)) zero)))
+  | inr more ↦ absurd (omega (arith, large more))
+]
+
+-- ---- a quotient
+
+-- The whole part of w / m and what is left.
+between-quotient : (w m : ℕ) (above : 0 < m) (g : ℤ) → Between (w / m) (w % m) g (divided (scaled w g) m above)
+unfolding scaled divided
+between-quotient w m above g =
+    let c = up g * down g in
+    let positive : 0 < c = mul-pos (up-pos g) (down-pos g) in
+    let whole : w / m * m + w % m ≡ w = div-add-mod' w m in
+    let part : w % m < m = mod-lt w above in
+    let least : w / m * m ≤ w = omega arith in
+    let next : w < suc (w / m) * m = omega arith in
+    record {
+      from = record { cross = omega (arith, mul-le-mul-right c least) };
+      to = record { cross = omega (arith, mul-lt-mul-of-pos-right next positive) };
+      none = λ none. let all : w ≤ w / m * m = omega arith in record { cross = omega (arith, mul-le-mul-right c all) };
+      some = λ some. let more : w / m * m < w = omega arith in record { cross = omega (arith, mul-lt-mul-of-pos-right more positive) };
+    }
+
+-- n × 2^e / m is the quotient of n shifted up.
+pub round-quotient : (side : Side) (n m : ℕ) (above : 0 < m) (e : ℤ) (k : ℕ) {r : Kept}
+    → ((z : Fraction) → Between (n * 2 ^ k / m) (n * 2 ^ k % m) (e -ℤ pos k) z → r ≡ round side z)
+    → r ≡ round side (divided (scaled n e) m above)
+round-quotient side n m above e k rounds =
+    let g = e -ℤ pos k in
+    let moved = scaled-shift n g k (sym (-ℤ-+ℤ-cancel e (pos k))) in
+    rounds (divided (scaled (n * 2 ^ k) g) m above) (between-quotient (n * 2 ^ k) m above g)
+    ∙ round-same side (divided-same m above (same-sym moved))
+
+-- It has 32 digits or more, for a divisor of 32 digits.
+pub quotient-many : {n m : ℕ} → Shifted n → 0 < m → m < 2 ^ 32 → 2 ^ 31 ≤ n * 2 ^ leadingZeros 64 n / m
+quotient-many word above small = le-div-iff-mul-le above .1 (omega (arith, word .least))
