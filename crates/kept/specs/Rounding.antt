@@ -11,7 +11,7 @@ use mathlib.Core.Path.{_≡_}
 use mathlib.Core.Logic.{_⊎_}
 use mathlib.Core.Bool.{cond}
 use lib.Dec.{eqb}
-use lib.IntN.{ℤ, pos, natAbs, _+ℤ_}
+use lib.IntN.{ℤ, pos, negsuc, natAbs, _+ℤ_}
 use lib.Ieee.{up, down, minus, size}
 use lib.Ieee.Fits.{down-pos}
 use Rattle.model.specs.Fraction.{Fraction, AtMost, plus, times, divided, integer, over}
@@ -29,6 +29,10 @@ value x = scaled (x .significand) (x .exponent)
 
 unfoldable pub nought : Kept
 nought = record { significand = 0; exponent = pos 0 }
+
+-- One: 2^31 × 2^−31.
+unfoldable pub unity : Kept
+unity = record { significand = 2 ^ 31; exponent = negsuc 30 }
 
 -- The significand of a kept number that is not zero has exactly 32 binary digits.
 pub record Normal (s : ℕ) : Type 0 where

@@ -59,7 +59,7 @@ module _ (s t : ℕ) (e f : ℤ) (d : ℕ) (gap : e ≡ f +ℤ pos d) where
       let small : t < 2 ^ d = lt-of-lt-of-le (normal .below) (pow-mono far) in
       let first = scaled-shift s f d gap in
       let more : Less (scaled s e) (plus (scaled s e) (scaled t f)) =
-          at-most-less-trans (at-most-of-same first) (less-at-most-trans (scaled-less f (omega arith)) (at-most-of-same sum-near)) in
+      at-most-less-trans (at-most-of-same first) (less-at-most-trans (scaled-less f (omega arith)) (at-most-of-same sum-near)) in
       record {
         from = at-most-of-less more;
         to =

@@ -6,19 +6,19 @@ use mathlib.Core.Logic.{_⊎_, inl, inr}
 use mathlib.Core.Bool.{Bool, true, false, cond}
 use native.Mathlib.Nat.{pos-of-ne-zero, mul-le-mul-left, mul-le-mul-right, mul-lt-mul-of-pos-left, mul-pos, pow-succ', le-div-iff-mul-le, div-lt-iff-lt-mul, div-add-mod', mod-lt, lt-of-not-le, le-trans, lt-of-lt-of-le, not-le-of-lt, eq-of-mul-eq-mul-right}
 use native.Mathlib.Omega.{arith}
-use lib.Dec.{eqb}
+use lib.Dec.{eqb, lit<, lit≤}
 use lib.Pow.{pow-add, pow-pos, pow-mono}
 use lib.IntN.{ℤ, pos, _+ℤ_}
 use lib.Ieee.{up, down, minus, size}
 use lib.Ieee.Fits.{up-pos, down-pos}
 use lib.Ieee.Digits.{minus-val, size-lt, size-reaches}
 use borrow.Author.Tests.{eqb-true, eqb-false}
-use Rattle.model.specs.Fraction.{Fraction, Same, AtMost, Less}
+use Rattle.model.specs.Fraction.{Fraction, Same, AtMost, Less, certainty}
 use Rattle.model.specs.Fraction.Laws.{same-refl, same-sym, same-trans, at-most-refl, at-most-trans, at-most-of-same, at-most-of-less, at-most-antisymm, less-at-most-trans, at-most-less-trans}
 use Rattle.kept.specs.declared.Kept.{Kept}
 use Rattle.kept.specs.declared.Side.{Side}
 use Rattle.kept.specs.declared.Side.the-variants.{Low, High}
-use Rattle.kept.specs.Rounding.{scaled, value, nought, Normal, IsKept, OnSide, Rounded, step, carry, round}
+use Rattle.kept.specs.Rounding.{scaled, value, nought, unity, Normal, IsKept, OnSide, Rounded, step, carry, round}
 use Rattle.kept.specs.Rounding.Powers.{scaled-shift, exponents}
 use Rattle.kept.specs.Rounding.Leading.{Between, Adjacent, rounded-leading, adjacent-leading}
 
@@ -104,9 +104,9 @@ module _ (z : Fraction) (above : 0 < z .num) where
   digits-many : 32 < digits
   digits-many =
       let least : 2 ^ 32 ≤ z .num * 2 ^ a / z .den =
-          le-div-iff-mul-le (z .positive) .1
-          (rw (pow-add 2 32 (size (z .den)))
-          (omega (arith, mul-le-mul-right (2 ^ size (z .den)) above, size-lt (z .den)))) in
+      le-div-iff-mul-le (z .positive) .1
+      (rw (pow-add 2 32 (size (z .den)))
+      (omega (arith, mul-le-mul-right (2 ^ size (z .den)) above, size-lt (z .den)))) in
       lt-of-not-le (λ few. not-le-of-lt (lt-of-lt-of-le (size-lt (z .num * 2 ^ a / z .den)) (pow-mono few)) least)
 
   normal-leading : Normal (z .num * 2 ^ a / (z .den * 2 ^ (digits - 32)))
@@ -155,12 +155,20 @@ module _ (side : Side) {z : Fraction} {x : Kept} where
     best = λ y kept on. r .best y kept (side-trans side (value y) on (same-sym same));
   }
 
-nought-kept : IsKept nought
+pub nought-kept : IsKept nought
 nought-kept = record { form = inl refl }
 
 pub nought-same : (z : Fraction) → z .num ≡ 0 → Same (value nought) z
 unfolding nought scaled
 nought-same z is = record { cross = omega (arith, ap (λ n. n * 1) is) }
+
+pub unity-kept : IsKept unity
+unfolding unity
+unity-kept = record { form = inr (record { least = lit≤ tt; below = lit< tt }) }
+
+pub unity-value : Same (value unity) certainty
+unfolding unity certainty scaled
+unity-value = record { cross = refl }
 
 -- The greatest kept number not above z, or the least not below it.
 pub round-is : (side : Side) (z : Fraction) → Rounded side z (round side z)

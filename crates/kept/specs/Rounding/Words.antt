@@ -86,7 +86,7 @@ module _ {v rest : ℕ} {e : ℤ} {z : Fraction} (word : Shifted v) (between : B
       let back : 32 - zeros + zeros ≡ 32 = omega arith in
       let split : 2 ^ (32 - zeros) * 2 ^ zeros ≡ 2 ^ 32 = sym (pow-add 2 (32 - zeros) zeros) ∙ ap (λ k. 2 ^ k) back in
       let less : v < suc q * 2 ^ (32 - zeros) =
-          lt-of-mul-lt-mul-right (2 ^ zeros) (omega (arith, upper, lower, ap (λ k. q * k) split)) in
+      lt-of-mul-lt-mul-right (2 ^ zeros) (omega (arith, upper, lower, ap (λ k. q * k) split)) in
       omega (arith, mul-le-mul-right (2 ^ zeros) less, ap (λ k. q * k) split)
 
   abbrev e' : ℤ

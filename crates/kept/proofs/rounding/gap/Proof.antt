@@ -8,8 +8,8 @@ use mir.Syntax.{w32}
 use mir.Val.{SFits}
 use mir.Facts.{toZ-ofZ, fits-natAbs}
 use Rattle.kept.specs.Rounding.Exponents.{reach-minus, reach-fits, ordered-difference}
-use Rattle.kept.proofs.gap.Statement.{statement}
-use Rattle.kept.proofs.gap.Tie as tie
+use Rattle.kept.proofs.rounding.gap.Statement.{statement}
+use Rattle.kept.proofs.rounding.gap.Tie as tie
 
 fits : (c : tie.Start) → SFits w32 (c .args .e -ℤ c .args .f)
 fits c = reach-fits (lit< tt) (reach-minus (c .pre .0) (c .pre .1 .0))

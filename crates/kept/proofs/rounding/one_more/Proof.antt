@@ -5,8 +5,8 @@ use Prim.Native.Nat.{ℕ, zero, suc}
 use mathlib.Core.Path.{_≡_, refl}
 use Rattle.kept.specs.declared.Side.the-variants.{High}
 use Rattle.kept.specs.Rounding.{step}
-use Rattle.kept.proofs.one_more.Statement.{statement}
-use Rattle.kept.proofs.one_more.Tie as tie
+use Rattle.kept.proofs.rounding.one_more.Statement.{statement}
+use Rattle.kept.proofs.rounding.one_more.Tie as tie
 
 some : (r : ℕ) → (r ≡ 0 → ⊥) → 1 ≡ step High r
 unfolding step

@@ -15,8 +15,8 @@ use Rattle.kept.specs.Rounding.{Reach}
 use Rattle.kept.specs.Rounding.Exponents.{reach-plus, reach-minus, reach-whole, reach-weaken}
 use Rattle.kept.specs.Rounding.Leading.{step-at-most-one}
 use Rattle.kept.specs.Rounding.Words.{Shifted, shifted, round-word, round-word-zero}
-use Rattle.kept.proofs.keep.Statement.{statement}
-use Rattle.kept.proofs.keep.Tie as tie
+use Rattle.kept.proofs.rounding.keep.Statement.{statement}
+use Rattle.kept.proofs.rounding.keep.Tie as tie
 
 word : (c : tie.Else1) → Shifted (c .before .args .v)
 word c = shifted (pos-of-ne-zero (c .if1 .left)) (c .before .fits .v .fits)

@@ -11,8 +11,8 @@ use Rattle.model.specs.Fraction.{plus}
 use Rattle.kept.specs.Rounding.{value, sum}
 use Rattle.kept.specs.Rounding.Exponents.{reach-weaken, reach-back}
 use Rattle.kept.specs.Rounding.Arithmetic.{between-exact, sum-near, sum-far, sum-word}
-use Rattle.kept.proofs.add.Statement.{statement}
-use Rattle.kept.proofs.add.Tie as tie
+use Rattle.kept.proofs.rounding.add.Statement.{statement}
+use Rattle.kept.proofs.rounding.add.Tie as tie
 
 apart : (c : tie.After-gap) → c .before .before .before .args .x .exponent ≡ c .before .before .before .args .y .exponent +ℤ pos (c .gap .result)
 apart c =

@@ -9,8 +9,8 @@ use mir.Val.{SFits}
 use mir.Facts.{toZ-ofZ, toZ-pos}
 use Rattle.kept.specs.Rounding.{Reach}
 use Rattle.kept.specs.Rounding.Exponents.{reach-plus, reach-minus, reach-whole, reach-fits}
-use Rattle.kept.proofs.raised.Statement.{statement}
-use Rattle.kept.proofs.raised.Tie as tie
+use Rattle.kept.proofs.rounding.raised.Statement.{statement}
+use Rattle.kept.proofs.rounding.raised.Tie as tie
 
 above : (c : tie.Start) → Reach 2000000132 (c .args .exponent +ℤ pos 32)
 above c = reach-plus (c .pre .0) (reach-whole {n = 32} {m = 32} (lit≤ tt))

@@ -17,8 +17,8 @@ use Rattle.kept.specs.Rounding.{scaled}
 use Rattle.kept.specs.Rounding.Exponents.{reach-minus, reach-whole, reach-weaken}
 use Rattle.kept.specs.Rounding.Laws.{round-nought}
 use Rattle.kept.specs.Rounding.Words.{Shifted, shifted, round-quotient, quotient-many}
-use Rattle.kept.proofs.ratio.Statement.{statement}
-use Rattle.kept.proofs.ratio.Tie as tie
+use Rattle.kept.proofs.rounding.ratio.Statement.{statement}
+use Rattle.kept.proofs.rounding.ratio.Tie as tie
 
 word : (c : tie.Else1) → Shifted (c .before .args .n)
 word c = shifted (pos-of-ne-zero (c .if1 .left)) (c .before .fits .n .fits)
@@ -64,10 +64,9 @@ lowered-requires c κs = rw (toZ-ofZ (c .before .fits .exponent)) (c .before .pr
 
 keep-requires : tie.Need-keep-requires
 keep-requires c κs =
-    let start = c .before .before in
-    (
+    let start = c .before .before in (
       rw (result c)
-      (reach-weaken {n = 1000000064} (lit≤ tt) (reach-minus (start .pre .0) (reach-whole (le-of-lt (word (c .before) .few))))),
+          (reach-weaken {n = 1000000064} (lit≤ tt) (reach-minus (start .pre .0) (reach-whole (le-of-lt (word (c .before) .few))))),
       λ _. rw (whole (c .before)) (quotient-many (word (c .before)) (start .pre .1) (start .fits .m .fits)),
     )
 

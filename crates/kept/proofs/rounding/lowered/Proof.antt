@@ -8,8 +8,8 @@ use mir.Syntax.{w32}
 use mir.Val.{SFits}
 use mir.Facts.{toZ-ofZ, toZ-pos}
 use Rattle.kept.specs.Rounding.Exponents.{reach-minus, reach-whole, reach-fits}
-use Rattle.kept.proofs.lowered.Statement.{statement}
-use Rattle.kept.proofs.lowered.Tie as tie
+use Rattle.kept.proofs.rounding.lowered.Statement.{statement}
+use Rattle.kept.proofs.rounding.lowered.Tie as tie
 
 fits : (c : tie.Start) → SFits w32 (c .args .exponent -ℤ pos (c .args .shift))
 fits c = reach-fits (lit< tt) (reach-minus (c .pre .0) (reach-whole (c .pre .1)))

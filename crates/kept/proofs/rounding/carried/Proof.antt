@@ -9,8 +9,8 @@ use mir.Val.{SFits}
 use mir.Facts.{toZ-ofZ}
 use Rattle.kept.specs.Rounding.{carry}
 use Rattle.kept.specs.Rounding.Exponents.{reach-plus, reach-whole, reach-fits}
-use Rattle.kept.proofs.carried.Statement.{statement}
-use Rattle.kept.proofs.carried.Tie as tie
+use Rattle.kept.proofs.rounding.carried.Statement.{statement}
+use Rattle.kept.proofs.rounding.carried.Tie as tie
 
 fits : (c : tie.Start) → SFits w32 (c .args .exponent +ℤ pos 1)
 fits c = reach-fits (lit< tt) (reach-plus (c .pre .1) (reach-whole {n = 1} {m = 1} (lit≤ tt)))

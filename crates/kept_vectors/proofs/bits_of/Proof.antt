@@ -1,0 +1,74 @@
+-- `kept_vectors::bits_of` is safe: a number that is not below 2^−800 and whose exponent is at most 192 has an f64, which is no NaN.
+-- Assumes nothing.
+use Prim.Native.Nat.{ℕ, suc, _+_, _*_, _≤_, _<_, _^_}
+use native.Mathlib.Nat.{lt-of-lt-of-le, mul-one, mul-le-mul-left}
+use native.Mathlib.Omega.{arith}
+use mathlib.Core.Path.{_≡_}
+use mathlib.Core.Bool.{false, not}
+use borrow.Author.Needs.{needs}
+use borrow.Author.Tests.{ltb-false}
+use lib.Dec.{T, lit≤}
+use lib.Ieee.{Float, nan, inf, fin, isNan}
+use lib.IntN.{ℤ, pos, negsuc}
+use lib.Pow.{pow-pos, pow-mono, shl-lt}
+use lib.Signed.{ltZ}
+use mir.Facts.{toZ-ofZ}
+use mir.Syntax.{w32}
+use mir.Val.{Fits, SFits}
+use Rattle.model.specs.Fraction.{Less}
+use Rattle.kept.specs.declared.Kept.{Kept}
+use Rattle.kept.specs.Binary64.{IsBinary64}
+use Rattle.kept.specs.Rounding.{scaled}
+use Rattle.kept_vectors.proofs.bits_of.Statement.{statement}
+use Rattle.kept_vectors.proofs.bits_of.Tie as tie
+
+-- Below 2^224.
+below : {s : ℕ} → s < 2 ^ 32 → (e : ℤ) → ltZ (pos 192) e ≡ false → Less (scaled s e) (scaled 1 (pos 224))
+unfolding scaled
+below small (pos k) t =
+    let few : 32 + k ≤ 224 = omega (arith, ltb-false 192 k t) in
+    record { cross = simp mul-one (lt-of-lt-of-le (shl-lt 32 k small) (pow-mono few)) }
+below small (negsuc k) t =
+    record { cross = widen (2 ^ 224) (2 ^ suc k) (lt-of-lt-of-le small (lit≤ tt)) (pow-pos (suc k)) }
+  where
+    widen : {s : ℕ} (a b : ℕ) → s < a → 0 < b → s * 1 * 1 < 1 * a * b
+    widen a b small above = omega (arith, mul-le-mul-left a above)
+
+not-nan : {x : Kept} (r : Float) → IsBinary64 x r → T (not (isNan r))
+unfolding isNan
+not-nan nan is = is .exact
+not-nan (inf s) is = tt
+not-nan (fin s m e) is = tt
+
+is-below-shown-requires : tie.Need-is-below-shown-requires
+is-below-shown-requires c κs = search needs
+
+returns : tie.Need-returns
+returns c = search needs
+
+returns-2 : tie.Need-returns-2
+returns-2 c = search needs
+
+to-f64-requires : tie.Need-to-f64-requires
+to-f64-requires c κs =
+    let asked = c .before .before .before .before in
+    let start = asked .before in
+    let x = start .args .x in
+    let small : Fits w32 (x .significand) = search needs in
+    let fits : SFits w32 (x .exponent) = search needs in
+    record {
+      kept = start .pre .kept;
+      least = asked .is-below-shown .ensures .shown (c .before .before .before .if1 .left);
+      below = below (small .fits) (x .exponent) (rw (toZ-ofZ fits) at (c .if2 .left));
+    }
+
+float-to-bits-t5 : tie.Need-float-to-bits-t5
+float-to-bits-t5 c = not-nan _ (c .to-f64 .ensures)
+
+returns-3 : tie.Need-returns-3
+returns-3 c = search needs
+
+pub bits-of-spec : {M : Type 1} → statement M
+bits-of-spec =
+    tie.close
+    (tie.spec is-below-shown-requires returns returns-2 to-f64-requires float-to-bits-t5 returns-3)

@@ -1,0 +1,26 @@
+-- `kept_vectors::operand` meets its contract: zero is an operand, and so is what has passed the two tests.
+-- Assumes nothing.
+use native.Mathlib.Omega.{arith}
+use mathlib.Core.Path.{sym, refl, subst}
+use mathlib.Core.Logic.{inl, inr}
+use borrow.Author.Needs.{needs}
+use Rattle.kept.specs.Rounding.{Operand, nought}
+use Rattle.kept_vectors.proofs.operand.Statement.{statement}
+use Rattle.kept_vectors.proofs.operand.Tie as tie
+
+magnitude-requires : tie.Need-magnitude-requires
+magnitude-requires c κs = search needs
+
+returns : tie.Need-returns
+returns c = record { kept = record { form = inr (omega arith) }; range = omega arith }
+
+zero-requires : tie.Need-zero-requires
+zero-requires c κs = search needs
+
+returns-2 : tie.Need-returns-2
+unfolding nought
+returns-2 c =
+    subst Operand (sym (c .zero .ensures)) (record { kept = record { form = inl refl }; range = omega arith })
+
+pub operand-spec : {M : Type 1} → statement M
+operand-spec = tie.close (tie.spec magnitude-requires returns zero-requires returns-2)
