@@ -1,2 +1,3 @@
 pub mod Rounding
 pub mod Accuracy
+pub mod Binary64

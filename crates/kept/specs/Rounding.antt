@@ -6,6 +6,7 @@ pub mod Leading
 pub mod Laws
 pub mod Words
 pub mod Arithmetic
+pub mod Sums
 use Prim.Native.Nat.{ℕ, zero, suc, _+_, _-_, _*_, _/_, _%_, _^_, _≤_, _<_}
 use mathlib.Core.Path.{_≡_}
 use mathlib.Core.Logic.{_⊎_}
@@ -52,33 +53,27 @@ pub record Operand (x : Kept) : Type 0 where
   pub kept : IsKept x
   pub reach : Reach 1000000000 (x .exponent)
 
--- The same for a kept number that is not zero.
-pub record Positive (x : Kept) : Type 0 where
-  pub normal : Normal (x .significand)
-  pub reach : Reach 1000000000 (x .exponent)
-
 -- What is added to the leading digits, r being what was dropped below them: one on the high side where that is not zero.
 unfoldable pub step : Side → ℕ → ℕ
 step Low r = 0
 step High zero = 0
 step High (suc r) = 1
 
--- s × 2^e with s from 2^31 to 2^32: 2^32 becomes 2^31, and the exponent one more.
+-- s × 2^e with s zero or from 2^31 to 2^32. Zero has the exponent 0, and 2^32 becomes 2^31 with the exponent one more.
 unfoldable pub carry : ℕ → ℤ → Kept
 carry s e =
-    cond (eqb s (2 ^ 32))
-    (record { significand = 2 ^ 31; exponent = e +ℤ pos 1 })
-    (record { significand = s; exponent = e })
+    cond (eqb s 0) nought
+    (cond (eqb s (2 ^ 32)) (record { significand = 2 ^ 31; exponent = e +ℤ pos 1 }) (record { significand = s; exponent = e }))
 
--- A fraction rounded to a kept number. It is n / den × 2^−a with a so large that the whole part of n / den has 33 binary digits or more. Of
--- these the leading 32 stay; b are dropped.
+-- A fraction rounded to a kept number. It is n / den × 2^−a, and a is so large that n / den has 33 binary digits before the point, or more, unless
+-- it is zero. Of these the leading 32 stay; b are dropped.
 unfoldable pub round : Side → Fraction → Kept
 round side z =
     let a = 32 + size (z .den) in
     let n = z .num * 2 ^ a in
     let b = size (n / z .den) - 32 in
     let u = z .den * 2 ^ b in
-    cond (eqb (z .num) 0) nought (carry (n / u + step side (n % u)) (minus b a))
+    carry (n / u + step side (n % u)) (minus b a)
 
 -- On the low side x is not above z, on the high side not below it.
 abbrev pub OnSide : Side → Fraction → Fraction → Type 0

@@ -4,11 +4,14 @@ ghost use mathlib.Core.Path.{_≡_};
 ghost use Prim.Native.Nat.{_<_};
 ghost use Rattle.kept.specs.Rounding.{Operand, nought, unity, product, sum, quotient, ofInteger, ofBasisPoints};
 
+mod binary64;
 mod rounding;
 
 use rounding::add;
 use rounding::keep;
+use rounding::placed;
 use rounding::ratio;
+use rounding::select;
 
 // Which bound of an exact value a number is.
 pub enum Side {
@@ -65,17 +68,10 @@ impl Kept {
         requires { ⌜ Operand self ⌝ ∗ ⌜ Operand other ⌝ }
         ensures { λ r. ⌜ r ≡ sum side self other ⌝ }
     {
-        if self.significand == 0 {
-            return other;
-        }
-        if other.significand == 0 {
-            return self;
-        }
-        if self.exponent < other.exponent {
-            add(other, self, side)
-        } else {
-            add(self, other, side)
-        }
+        let x = placed(self);
+        let y = placed(other);
+        let swapped = x.exponent < y.exponent;
+        add(select(swapped, y, x), select(swapped, x, y), side)
     }
 
     pub fn quotient(self, divisor: u32, side: Side) -> Kept

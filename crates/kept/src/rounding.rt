@@ -1,11 +1,14 @@
 // The steps of rounding: what the methods of a kept number are made of.
 ghost use mathlib.Core.Path.{_≡_};
-ghost use Prim.Native.Nat.{_≤_, _<_, _^_};
+ghost use mathlib.Core.Bool.{cond};
+ghost use Prim.Native.Nat.{_*_, _≤_, _<_, _^_};
 ghost use lib.IntN.{pos, _+ℤ_, _-ℤ_};
 ghost use lib.Signed.{_≤ℤ_};
-ghost use Rattle.model.specs.Fraction.{Fraction, divided};
-ghost use Rattle.kept.specs.Rounding.{Reach, Positive, scaled, step, carry, round, sum};
+ghost use Rattle.model.specs.Fraction.{Fraction, plus, divided};
+ghost use Rattle.kept.specs.Rounding.{Reach, Operand, scaled, value, step, carry, round};
 ghost use Rattle.kept.specs.Rounding.Leading.{Between};
+ghost use Rattle.kept.specs.Rounding.Words.{shiftOf};
+ghost use Rattle.kept.specs.Rounding.Sums.{Gap, Addend, placeOf};
 use super::Kept;
 use super::Side;
 
@@ -35,30 +38,50 @@ pub fn lowered(exponent: i32, shift: u32) -> i32
     exponent - shift as i32
 }
 
-// How far e is above f.
+// How far e is above f, or 32 where that is more.
 pub fn gap(e: i32, f: i32) -> u32
     requires { ⌜ Reach 1000000000 e ⌝ ∗ ⌜ Reach 1000000000 f ⌝ ∗ ⌜ f ≤ℤ e ⌝ }
-    ensures { λ r. ⌜ e ≡ f +ℤ pos r ⌝ }
+    ensures { λ r. ⌜ Gap e f r ⌝ }
 {
-    (e - f) as u32
+    let d = (e - f) as u32;
+    if d < 32 { d } else { 32 }
 }
 
-// A significand of 2^32 becomes 2^31, and the exponent one more.
+// The exponent that goes with a significand: 0 for zero, one more for 2^32.
+pub fn settled(significand: u64, exponent: i32) -> i32
+    requires { ⌜ significand ≤ 2 ^ 32 ⌝ ∗ ⌜ Reach 2000000200 exponent ⌝ }
+    ensures { λ r. ⌜ r ≡ carry significand exponent .exponent ⌝ }
+{
+    if significand == 0 {
+        0
+    } else {
+        exponent + (significand >> 32) as i32
+    }
+}
+
+// A significand of 2^32 is halved, and the exponent one more. The shift is by one there and by nothing below it.
 pub fn carried(significand: u64, exponent: i32) -> Kept
     requires { ⌜ significand ≤ 2 ^ 32 ⌝ ∗ ⌜ Reach 2000000200 exponent ⌝ }
     ensures { λ r. ⌜ r ≡ carry significand exponent ⌝ }
 {
-    if significand == 0x1_0000_0000 {
-        Kept {
-            significand: 0x8000_0000,
-            exponent: exponent + 1,
-        }
-    } else {
-        Kept {
-            significand: significand as u32,
-            exponent,
-        }
+    let top = significand >> 32;
+    Kept {
+        significand: (significand >> top) as u32,
+        exponent: settled(significand, exponent),
     }
+}
+
+// How far a word is shifted up until its highest digit is set. Zero is not shifted.
+pub fn headroom(v: u64) -> u32
+    ensures { λ r. ⌜ r ≡ shiftOf v ⌝ }
+{
+    u64::leading_zeros(v) % 64
+}
+
+pub fn shifted_up(v: u64) -> u64
+    ensures { λ r. ⌜ r ≡ v * 2 ^ shiftOf v ⌝ }
+{
+    v << headroom(v)
 }
 
 // v × 2^exponent rounded once, or a number between that and (v + 1) × 2^exponent where rest is not zero.
@@ -66,13 +89,12 @@ pub fn keep(v: u64, rest: u32, exponent: i32, side: Side) -> Kept
     requires { ⌜ Reach 2000000100 exponent ⌝ ∗ ⌜ (0 < rest → 2 ^ 31 ≤ v) ⌝ }
     ensures { λ r. ⌜ ((z : Fraction) → Between v rest exponent z → r ≡ round side z) ⌝ }
 {
-    if v == 0 {
-        return Kept::zero();
-    }
-    let shift = u64::leading_zeros(v);
-    let w = v << shift;
+    let w = shifted_up(v);
     let dropped = w % 0x1_0000_0000 + rest as u64;
-    carried((w >> 32) + one_more(side, dropped), raised(exponent, shift))
+    carried(
+        (w >> 32) + one_more(side, dropped),
+        raised(exponent, headroom(v)),
+    )
 }
 
 // n / m × 2^exponent rounded once.
@@ -80,29 +102,39 @@ pub fn ratio(n: u64, m: u32, exponent: i32, side: Side) -> Kept
     requires { ⌜ Reach 1000000000 exponent ⌝ ∗ ⌜ 0 < m ⌝ }
     ensures { λ r. ⌜ ((above : 0 < m) → r ≡ round side (divided (scaled n exponent) m above)) ⌝ }
 {
-    if n == 0 {
-        return Kept::zero();
-    }
-    let shift = u64::leading_zeros(n);
-    let w = n << shift;
+    let w = shifted_up(n);
     let d = m as u64;
-    keep(w / d, (w % d) as u32, lowered(exponent, shift), side)
+    keep(w / d, (w % d) as u32, lowered(exponent, headroom(n)), side)
 }
 
-// The sum of two kept numbers above zero, the first with the larger exponent.
+// Zero at the lowest exponent, so that no number stands below it, and any other number as it is.
+pub fn placed(x: Kept) -> Kept
+    requires { ⌜ Operand x ⌝ }
+    ensures { λ r. ⌜ r ≡ placeOf x ⌝ }
+{
+    Kept {
+        significand: x.significand,
+        exponent: if x.significand == 0 {
+            -1_000_000_000
+        } else {
+            x.exponent
+        },
+    }
+}
+
+pub fn select(test: bool, x: Kept, y: Kept) -> Kept
+    ensures { λ r. ⌜ r ≡ cond test x y ⌝ }
+{
+    if test { x } else { y }
+}
+
+// The sum of two numbers, the first with the larger exponent. A second one that lies 32 digits or more below the first is added as if it lay
+// 32 digits below: it changes no leading digit, and only whether it is zero counts.
 pub fn add(x: Kept, y: Kept, side: Side) -> Kept
-    requires { ⌜ Positive x ⌝ ∗ ⌜ Positive y ⌝ ∗ ⌜ y .exponent ≤ℤ x .exponent ⌝ }
-    ensures { λ r. ⌜ r ≡ sum side x y ⌝ }
+    requires { ⌜ Addend x ⌝ ∗ ⌜ Addend y ⌝ ∗ ⌜ y .exponent ≤ℤ x .exponent ⌝ }
+    ensures { λ r. ⌜ r ≡ round side (plus (value x) (value y)) ⌝ }
 {
     let d = gap(x.exponent, y.exponent);
-    if d < 32 {
-        keep(
-            ((x.significand as u64) << d) + y.significand as u64,
-            0,
-            y.exponent,
-            side,
-        )
-    } else {
-        keep(x.significand as u64, 1, x.exponent, side)
-    }
+    let v = ((x.significand as u64) << d) + y.significand as u64;
+    keep(v, 0, lowered(x.exponent, d), side)
 }

@@ -4,7 +4,7 @@ use Prim.Native.Nat.{ℕ, zero, suc, _+_, _-_, _*_, _/_, _%_, _^_, _≤_, _<_}
 use mathlib.Core.Path.{_≡_, refl, sym, ap, _∙_}
 use mathlib.Core.Logic.{_⊎_, inl, inr}
 use mathlib.Core.Bool.{Bool, true, false, cond}
-use native.Mathlib.Nat.{pos-of-ne-zero, mul-le-mul-left, mul-le-mul-right, mul-lt-mul-of-pos-left, mul-pos, pow-succ', le-div-iff-mul-le, div-lt-iff-lt-mul, div-add-mod', mod-lt, lt-of-not-le, le-trans, lt-of-lt-of-le, not-le-of-lt, eq-of-mul-eq-mul-right}
+use native.Mathlib.Nat.{eq-zero-or-pos, zero-mul, zero-div, zero-mod, add-zero, mul-le-mul-left, mul-le-mul-right, mul-lt-mul-of-pos-left, mul-pos, pow-succ', le-div-iff-mul-le, div-lt-iff-lt-mul, div-add-mod', mod-lt, lt-of-not-le, le-trans, lt-of-lt-of-le, not-le-of-lt, eq-of-mul-eq-mul-right}
 use native.Mathlib.Omega.{arith}
 use lib.Dec.{eqb, lit<, lit≤}
 use lib.Pow.{pow-add, pow-pos, pow-mono}
@@ -20,7 +20,7 @@ use Rattle.kept.specs.declared.Side.{Side}
 use Rattle.kept.specs.declared.Side.the-variants.{Low, High}
 use Rattle.kept.specs.Rounding.{scaled, value, nought, unity, Normal, IsKept, OnSide, Rounded, step, carry, round}
 use Rattle.kept.specs.Rounding.Powers.{scaled-shift, exponents}
-use Rattle.kept.specs.Rounding.Leading.{Between, Adjacent, rounded-leading, adjacent-leading}
+use Rattle.kept.specs.Rounding.Leading.{Between, Adjacent, carry-zero, rounded-leading, adjacent-leading}
 
 -- ---- a value has one kept number
 
@@ -170,17 +170,26 @@ pub unity-value : Same (value unity) certainty
 unfolding unity certainty scaled
 unity-value = record { cross = refl }
 
+rounded-positive : (side : Side) (z : Fraction) → 0 < z .num → Rounded side z (round side z)
+unfolding round
+rounded-positive side z above =
+    rounded-leading side _ (normal-leading z above) (between-cut z (a z above) (digits z above - 32))
+
+pub step-none : (side : Side) → step side 0 ≡ 0
+unfolding step
+step-none Low = refl
+step-none High = refl
+
+round-zero : (side : Side) (z : Fraction) → z .num ≡ 0 → round side z ≡ nought
+unfolding round
+round-zero side z none = rw (none, zero-mul) (rw (zero-div, zero-mod, step-none) (carry-zero _))
+
 -- The greatest kept number not above z, or the least not below it.
 pub round-is : (side : Side) (z : Fraction) → Rounded side z (round side z)
-unfolding round
-round-is side z =
-    by-test
-    (λ above. rounded-leading side _ (normal-leading z above) (between-cut z (a z above) (digits z above - 32)))
-    (eqb (z .num) 0) refl
-  where
-    by-test : {x : Kept} → (0 < z .num → Rounded side z x) → (t : Bool) → eqb (z .num) 0 ≡ t → Rounded side z (cond t nought x)
-    by-test else true test = rounded-exact side nought-kept (nought-same z (eqb-true (z .num) 0 test))
-    by-test else false test = else (pos-of-ne-zero (eqb-false (z .num) 0 test))
+round-is side z = elim (eq-zero-or-pos (z .num)) [
+  | inl none ↦ rw (round-zero side z none) (rounded-exact side nought-kept (nought-same z none))
+  | inr above ↦ rounded-positive side z above
+]
 
 module _ (side : Side) where
   -- It is the only one.
@@ -198,7 +207,7 @@ module _ (side : Side) where
   round-leading r normal between = round-only (rounded-leading side r normal between)
 
   pub round-nought : (z : Fraction) → z .num ≡ 0 → nought ≡ round side z
-  round-nought z is = round-exact nought-kept (nought-same z is)
+  round-nought z is = sym (round-zero side z is)
 
 -- Rounding keeps order.
 pub round-mono : (side : Side) {z w : Fraction} → AtMost z w → AtMost (value (round side z)) (value (round side w))

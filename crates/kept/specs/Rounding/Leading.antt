@@ -1,20 +1,20 @@
 -- The leading digits of a fraction, and its rounding from them.
 -- Assumes nothing.
-use Prim.Native.Nat.{ℕ, zero, suc, _+_, _*_, _^_, _≤_, _<_}
+use Prim.Native.Nat.{ℕ, zero, suc, _+_, _*_, _/_, _^_, _≤_, _<_}
 use mathlib.Core.Path.{_≡_, refl, sym, ap, _∙_}
 use mathlib.Core.Logic.{_⊎_, inl, inr}
 use mathlib.Core.Bool.{Bool, true, false, cond}
-use native.Mathlib.Nat.{add-zero, zero-lt-suc, mul-le-mul-left, pow-succ', lt-of-not-le}
+use native.Mathlib.Nat.{add-zero, div-one, div-eq-of-lt, zero-lt-suc, mul-le-mul-left, pow-succ', lt-of-not-le}
 use native.Mathlib.Numerals.{add-one}
 use native.Mathlib.Decide.{decLe}
 use native.Mathlib.Omega.{arith}
 use lib.Dec.{eqb, lit<, lit≤}
 use lib.Arith.{lt-of-le-ne}
 use lib.Pow.{pow-pos}
-use lib.IntN.{ℤ, pos, _+ℤ_}
-use borrow.Author.Tests.{eqb-true, eqb-false}
+use lib.IntN.{ℤ, pos, _+ℤ_, +ℤ-idr}
+use borrow.Author.Tests.{eqb-true, eqb-false, ne-eqb}
 use Rattle.model.specs.Fraction.{Fraction, Same, AtMost, Less}
-use Rattle.model.specs.Fraction.Laws.{same-trans, same-sym, at-most-trans, at-most-of-same, at-most-of-less, less-at-most-trans, at-most-less-trans, not-both}
+use Rattle.model.specs.Fraction.Laws.{same-refl, same-sym, at-most-trans, at-most-of-same, at-most-of-less, less-at-most-trans, at-most-less-trans, not-both}
 use Rattle.kept.specs.declared.Kept.{Kept}
 use Rattle.kept.specs.declared.Side.{Side}
 use Rattle.kept.specs.declared.Side.the-variants.{Low, High}
@@ -51,24 +51,65 @@ module _ {s : ℕ} (normal : Normal s) (e : ℤ) where
 
 -- ---- the carry
 
-module _ (s : ℕ) (e : ℤ) where
-  pub carry-value : Same (value (carry s e)) (scaled s e)
-  unfolding carry
-  carry-value = by-test (eqb s (2 ^ 32)) refl
-    where
-      by-test : (t : Bool) → eqb s (2 ^ 32) ≡ t
-          → Same (value (cond t (record { significand = 2 ^ 31; exponent = e +ℤ pos 1 }) (record { significand = s; exponent = e }))) (scaled s e)
-      by-test true test = rw (eqb-true s (2 ^ 32) test) (scaled-shift (2 ^ 31) e 1 refl)
-      by-test false test = omega arith
+nought-at : (e : ℤ) → Same (value nought) (scaled 0 e)
+unfolding nought scaled
+nought-at e = record { cross = omega arith }
 
-  pub carry-kept : 2 ^ 31 ≤ s → s ≤ 2 ^ 32 → IsKept (carry s e)
-  unfolding carry
-  carry-kept least most = by-test (eqb s (2 ^ 32)) refl
-    where
-      by-test : (t : Bool) → eqb s (2 ^ 32) ≡ t
-          → IsKept (cond t (record { significand = 2 ^ 31; exponent = e +ℤ pos 1 }) (record { significand = s; exponent = e }))
-      by-test true test = record { form = inr (record { least = lit≤ tt; below = lit< tt }) }
-      by-test false test = record { form = inr (record { least = least; below = lt-of-le-ne most (eqb-false s (2 ^ 32) test) }) }
+-- By what the carry tests: zero, 2^32, or another number.
+by-carry : (P : Kept → Type 0) (s : ℕ) (e : ℤ)
+    → (s ≡ 0 → P nought)
+    → (s ≡ 2 ^ 32 → P (record { significand = 2 ^ 31; exponent = e +ℤ pos 1 }))
+    → ((s ≡ 0 → ⊥) → (s ≡ 2 ^ 32 → ⊥) → P (record { significand = s; exponent = e }))
+    → P (carry s e)
+unfolding carry
+by-carry P s e none top other = by-tests (eqb s 0) (eqb s (2 ^ 32)) refl refl
+  where
+    by-tests : (t u : Bool) → eqb s 0 ≡ t → eqb s (2 ^ 32) ≡ u
+        → P (cond t nought (cond u (record { significand = 2 ^ 31; exponent = e +ℤ pos 1 }) (record { significand = s; exponent = e })))
+    by-tests true u is test = none (eqb-true s 0 is)
+    by-tests false true not is = top (eqb-true s (2 ^ 32) is)
+    by-tests false false not test = other (eqb-false s 0 not) (eqb-false s (2 ^ 32) test)
+
+pub carry-zero : (e : ℤ) → carry 0 e ≡ nought
+unfolding carry
+carry-zero e = refl
+
+pub carry-value : (s : ℕ) (e : ℤ) → Same (value (carry s e)) (scaled s e)
+carry-value s e =
+    by-carry (λ x. Same (value x) (scaled s e)) s e
+    (λ is. rw is (nought-at e))
+    (λ is. rw is (scaled-shift (2 ^ 31) e 1 refl))
+    (λ _ _. same-refl)
+
+pub carry-kept : (s : ℕ) (e : ℤ) → 2 ^ 31 ≤ s → s ≤ 2 ^ 32 → IsKept (carry s e)
+carry-kept s e least most =
+    by-carry IsKept s e
+    (λ is. record { form = inl refl })
+    (λ is. record { form = inr (record { least = lit≤ tt; below = lit< tt }) })
+    (λ _ not. record { form = inr (record { least = least; below = lt-of-le-ne most not }) })
+
+-- The carry without a test for 2^32: s / 2^32 is one there, and zero below it.
+pub carry-significand : (s : ℕ) (e : ℤ) → s ≤ 2 ^ 32 → carry s e .significand ≡ s / 2 ^ (s / 2 ^ 32)
+unfolding nought
+carry-significand s e most =
+    by-carry (λ x. x .significand ≡ s / 2 ^ (s / 2 ^ 32)) s e
+    (λ is. rw is refl)
+    (λ is. rw is refl)
+    (λ _ not. sym (rw (div-eq-of-lt (lt-of-le-ne most not)) (div-one s)))
+
+pub carry-below : (s : ℕ) → s ≤ 2 ^ 32 → s / 2 ^ (s / 2 ^ 32) < 2 ^ 32
+unfolding nought
+carry-below s most =
+    rw (← carry-significand s (pos 0) most)
+    (by-carry (λ x. x .significand < 2 ^ 32) s (pos 0) (λ _. lit< tt) (λ _. lit< tt) (λ _ not. lt-of-le-ne most not))
+
+pub carry-exponent : (s : ℕ) (e : ℤ) → s ≤ 2 ^ 32 → carry s e .exponent ≡ cond (eqb s 0) (pos 0) (e +ℤ pos (s / 2 ^ 32))
+unfolding nought
+carry-exponent s e most =
+    by-carry (λ x. x .exponent ≡ cond (eqb s 0) (pos 0) (e +ℤ pos (s / 2 ^ 32))) s e
+    (λ is. rw is refl)
+    (λ is. rw is refl)
+    (λ not-zero not-top. sym (rw (ne-eqb s 0 not-zero, div-eq-of-lt (lt-of-le-ne most not-top)) (+ℤ-idr e)))
 
 -- ---- the rounding
 

@@ -3,7 +3,7 @@
 use Prim.Native.Nat.{ℕ, suc, _+_, _-_, _*_, _/_, _%_, _^_, _≤_, _<_}
 use mathlib.Core.Path.{_≡_, sym, ap, _∙_}
 use mathlib.Core.Logic.{inl, inr}
-use native.Mathlib.Nat.{eq-zero-or-pos, eq-of-mul-eq-mul-right, mul-pos, mul-le-mul-right, mul-lt-mul-of-pos-right, lt-of-mul-lt-mul-right, le-div-iff-mul-le, div-lt-iff-lt-mul, div-add-mod', mod-lt, lt-of-not-le, lt-of-lt-of-le, not-le-of-lt, two-pow-succ}
+use native.Mathlib.Nat.{eq-zero-or-pos, eq-of-mul-eq-mul-right, mul-pos, mul-le-mul-right, mul-lt-mul-of-pos-right, lt-of-mul-lt-mul-right, le-div-iff-mul-le, div-lt-iff-lt-mul, div-add-mod', mod-lt, lt-of-not-le, lt-of-lt-of-le, not-le-of-lt, two-pow-succ, mod-eq-of-lt, zero-mul, zero-mod, lt-irrefl}
 use native.Mathlib.Omega.{arith}
 use lib.Count.{leadingZeros, leading-top}
 use lib.Dec.{lit<}
@@ -17,38 +17,57 @@ use Rattle.kept.specs.declared.Kept.{Kept}
 use Rattle.kept.specs.declared.Side.{Side}
 use Rattle.kept.specs.Rounding.{scaled, nought, Normal, step, carry, round}
 use Rattle.kept.specs.Rounding.Powers.{scaled-shift, scaled-at-most, scaled-less}
-use Rattle.kept.specs.Rounding.Leading.{Between}
-use Rattle.kept.specs.Rounding.Laws.{round-leading, round-nought, round-same}
+use Rattle.kept.specs.Rounding.Leading.{Between, carry-zero}
+use Rattle.kept.specs.Rounding.Laws.{step-none, round-leading, round-nought, round-same}
 
 -- ---- a word shifted up by its leading zeros
 
-pub record Shifted (v : ℕ) : Type 0 where
-  pub least : 2 ^ 63 ≤ v * 2 ^ leadingZeros 64 v
-  pub below : v * 2 ^ leadingZeros 64 v < 2 ^ 64
-  pub few : leadingZeros 64 v < 64
-  pub half : 2 ^ 31 ≤ v → leadingZeros 64 v ≤ 32
+-- How far the word v is shifted up until its highest digit is set; zero, which has none, is not shifted.
+unfoldable pub shiftOf : ℕ → ℕ
+shiftOf v = leadingZeros 64 v % 64
 
-pub shifted : {v : ℕ} → 0 < v → v < 2 ^ 64 → Shifted v
-shifted {v} above word =
+pub record Shifted (v : ℕ) : Type 0 where
+  pub least : 0 < v → 2 ^ 63 ≤ v * 2 ^ shiftOf v
+  pub below : v * 2 ^ shiftOf v < 2 ^ 64
+  pub few : shiftOf v < 64
+  pub half : 2 ^ 31 ≤ v → shiftOf v ≤ 32
+
+shifted-zero : Shifted 0
+unfolding shiftOf
+shifted-zero = record {
+  least = λ none. absurd (omega arith);
+  below = rw (zero-mul) (lit< tt);
+  few = mod-lt (leadingZeros 64 0) (lit< tt);
+  half = λ large. absurd (omega arith);
+}
+
+shifted-positive : {v : ℕ} → 0 < v → v < 2 ^ 64 → Shifted v
+unfolding shiftOf
+shifted-positive {v} above word =
     let zeros = leadingZeros 64 v in
     let (j, total, least, below) = leading-top 64 v above word in
+    let few : zeros < 64 = omega arith in
     let up : j + zeros ≡ 63 = omega arith in
     let top : 2 ^ j * 2 ^ zeros ≡ 2 ^ 63 = sym (pow-add 2 j zeros) ∙ ap (λ k. 2 ^ k) up in
     let past : 2 ^ suc j * 2 ^ zeros ≡ 2 ^ 64 = omega (arith, ap (λ k. k * 2 ^ zeros) (two-pow-succ j)) in
+    let same : zeros % 64 ≡ zeros = mod-eq-of-lt few in
     record {
-      least = omega (arith, mul-le-mul-right (2 ^ zeros) least);
-      below = omega (arith, mul-lt-mul-of-pos-right below (pow-pos zeros));
-      few = omega arith;
+      least = λ _. rw same (omega (arith, mul-le-mul-right (2 ^ zeros) least));
+      below = rw same (omega (arith, mul-lt-mul-of-pos-right below (pow-pos zeros)));
+      few = rw same few;
       half = λ large.
-          let many : 31 < suc j = lt-of-not-le (λ few. not-le-of-lt (lt-of-lt-of-le below (pow-mono few)) large) in
-          omega arith;
+          let many : 31 < suc j = lt-of-not-le (λ fewer. not-le-of-lt (lt-of-lt-of-le below (pow-mono fewer)) large) in
+          rw same (omega arith);
     }
+
+pub shifted : {v : ℕ} → v < 2 ^ 64 → Shifted v
+shifted {v} word = elim (eq-zero-or-pos v) [ inl none ↦ rw none shifted-zero | inr above ↦ shifted-positive above word ]
 
 -- ---- its upper 32 digits
 
 module _ {v rest : ℕ} {e : ℤ} {z : Fraction} (word : Shifted v) (between : Between v rest e z) where
   abbrev zeros : ℕ
-  zeros = leadingZeros 64 v
+  zeros = shiftOf v
 
   abbrev w : ℕ
   w = v * 2 ^ zeros
@@ -60,9 +79,9 @@ module _ {v rest : ℕ} {e : ℤ} {z : Fraction} (word : Shifted v) (between : B
   abbrev g : ℤ
   g = e -ℤ pos zeros
 
-  normal-upper : Normal q
-  normal-upper = record {
-    least = le-div-iff-mul-le (pow-pos 32) .1 (word .least);
+  normal-upper : 0 < v → Normal q
+  normal-upper above = record {
+    least = le-div-iff-mul-le (pow-pos 32) .1 (word .least above);
     below = div-lt-iff-lt-mul (pow-pos 32) .1 (word .below);
   }
 
@@ -129,23 +148,29 @@ module _ {v rest : ℕ} {e : ℤ} {z : Fraction} (word : Shifted v) (between : B
     ];
   }
 
--- v × 2^e, or more where rest is not zero, rounded from the upper digits of v.
-pub round-word : (side : Side) {v rest : ℕ} {e : ℤ} {z : Fraction}
-    → Shifted v → (0 < rest → 2 ^ 31 ≤ v) → Between v rest e z
-    → carry (v * 2 ^ leadingZeros 64 v / 2 ^ 32 + step side (v * 2 ^ leadingZeros 64 v % 2 ^ 32 + rest)) (e +ℤ pos 32 -ℤ pos (leadingZeros 64 v))
-    ≡ round side z
-round-word side word large between =
-    round-leading side _ (normal-upper word between) (between-upper word between (λ more. word .half (large more)))
+module _ (side : Side) {v rest : ℕ} {e : ℤ} {z : Fraction} (large : 0 < rest → 2 ^ 31 ≤ v) (between : Between v rest e z) where
+  -- Nothing rounds to zero.
+  zero-word : v ≡ 0 → nought ≡ round side z
+  unfolding scaled
+  zero-word none = elim (eq-zero-or-pos rest) [
+    | inl exact ↦
+        let least = between .none exact in
+        round-nought side z
+        (eq-of-mul-eq-mul-right (down e) (down-pos e) (z .num) 0 (omega (arith, ap (λ n. n * (up e * z .den)) none)))
+    | inr more ↦ absurd (omega (arith, large more))
+  ]
 
-pub round-word-zero : (side : Side) {v rest : ℕ} {e : ℤ} {z : Fraction}
-    → v ≡ 0 → (0 < rest → 2 ^ 31 ≤ v) → Between v rest e z → nought ≡ round side z
-unfolding scaled
-round-word-zero side {v} {rest} {e} {z} zero large between = elim (eq-zero-or-pos rest) [
+  zero-rest : v ≡ 0 → rest ≡ 0
+  zero-rest none = elim (eq-zero-or-pos rest) [ inl exact ↦ exact | inr more ↦ absurd (omega (arith, large more)) ]
+
+-- v × 2^e, or more where rest is not zero, rounded from the upper digits of v.
+pub round-word : (side : Side) {v rest : ℕ} {e : ℤ} {z : Fraction} → Shifted v → (0 < rest → 2 ^ 31 ≤ v) → Between v rest e z
+    → carry (v * 2 ^ shiftOf v / 2 ^ 32 + step side (v * 2 ^ shiftOf v % 2 ^ 32 + rest)) (e +ℤ pos 32 -ℤ pos (shiftOf v)) ≡ round side z
+round-word side {v} {rest} {e} {z} word large between = elim (eq-zero-or-pos v) [
   | inl none ↦
-      let least = between .none none in
-      round-nought side z
-      (eq-of-mul-eq-mul-right (down e) (down-pos e) (z .num) 0 (omega (arith, ap (λ n. n * (up e * z .den)) zero)))
-  | inr more ↦ absurd (omega (arith, large more))
+      rw (none, zero-rest side large between none, zero-mul)
+      (rw (step-none side) (carry-zero (e +ℤ pos 32 -ℤ pos (shiftOf 0)))) ∙ zero-word side large between none
+  | inr above ↦ round-leading side _ (normal-upper word between above) (between-upper word between (λ more. word .half (large more)))
 ]
 
 -- ---- a quotient
@@ -177,6 +202,9 @@ round-quotient side n m above e k rounds =
     rounds (divided (scaled (n * 2 ^ k) g) m above) (between-quotient (n * 2 ^ k) m above g)
     ∙ round-same side (divided-same m above (same-sym moved))
 
--- It has 32 digits or more, for a divisor of 32 digits.
-pub quotient-many : {n m : ℕ} → Shifted n → 0 < m → m < 2 ^ 32 → 2 ^ 31 ≤ n * 2 ^ leadingZeros 64 n / m
-quotient-many word above small = le-div-iff-mul-le above .1 (omega (arith, word .least))
+-- It has 32 digits or more where anything is left, for a divisor of 32 digits.
+pub quotient-many : {n m : ℕ} → Shifted n → 0 < m → m < 2 ^ 32 → 0 < n * 2 ^ shiftOf n % m → 2 ^ 31 ≤ n * 2 ^ shiftOf n / m
+quotient-many {n} {m} word above small more = elim (eq-zero-or-pos n) [
+  | inl none ↦ absurd (lt-irrefl 0 (rw (none, zero-mul, zero-mod) at more))
+  | inr some ↦ le-div-iff-mul-le above .1 (omega (arith, word .least some))
+]

@@ -12,7 +12,7 @@ magnitude-requires : tie.Need-magnitude-requires
 magnitude-requires c κs = search needs
 
 returns : tie.Need-returns
-returns c = record { kept = record { form = inr (omega arith) }; range = omega arith }
+returns c = record { kept = record { form = inr (omega arith) }; reach = omega arith }
 
 zero-requires : tie.Need-zero-requires
 zero-requires c κs = search needs
@@ -20,7 +20,7 @@ zero-requires c κs = search needs
 returns-2 : tie.Need-returns-2
 unfolding nought
 returns-2 c =
-    subst Operand (sym (c .zero .ensures)) (record { kept = record { form = inl refl }; range = omega arith })
+    subst Operand (sym (c .zero .ensures)) (record { kept = record { form = inl refl }; reach = omega arith })
 
 pub operand-spec : {M : Type 1} → statement M
 operand-spec = tie.close (tie.spec magnitude-requires returns zero-requires returns-2)

@@ -81,6 +81,10 @@ pub divided-mono : {x y : Fraction} (m : ℕ) (above : 0 < m) → AtMost x y →
 unfolding divided
 divided-mono m above l = omega (arith, mul-le-mul-right m (l .cross))
 
+pub plus-comm : (x y : Fraction) → Same (plus x y) (plus y x)
+unfolding plus
+plus-comm x y = omega arith
+
 pub plus-same : {x y v w : Fraction} → Same x y → Same v w → Same (plus x v) (plus y w)
 plus-same e f = at-most-antisymm
     (plus-mono (at-most-of-same e) (at-most-of-same f))

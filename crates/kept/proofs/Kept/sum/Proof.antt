@@ -1,54 +1,46 @@
--- `Kept::sum` meets its contract.
+-- `sum` meets its contract.
 -- Assumes nothing.
-use mathlib.Core.Path.{_≡_, _∙_}
+use mathlib.Core.Path.{_∙_}
+use borrow.Author.Needs.{needs}
 use lib.Dec.{lit<}
-use Rattle.kept.specs.Rounding.{Positive}
-use Rattle.kept.specs.Rounding.Exponents.{reach-back, order-yes, order-no}
-use Rattle.kept.specs.Rounding.Arithmetic.{sum-zero, sum-comm, kept-normal}
+use Rattle.kept.specs.Rounding.Exponents.{reach-back}
+use Rattle.kept.specs.Rounding.Sums.{place-addend, Ordered, ordered-addends, ordered-sum}
 use Rattle.kept.proofs.Kept.sum.Statement.{statement}
 use Rattle.kept.proofs.Kept.sum.Tie as tie
 
--- Both are above zero, once the two tests have failed.
-positive-self : (c : tie.Else2) → Positive (c .before .before .before .before .args .self)
-positive-self c =
-    let start = c .before .before .before .before in
-    record { normal = kept-normal (start .pre .0 .kept) (c .before .before .if1 .left); reach = start .pre .0 .reach }
+ordered : (c : tie.After-select2)
+    → Ordered (c .before .before .before .before .before .before .before .before .args .self)
+    (c .before .before .before .before .before .before .before .before .args .other)
+    (c .before .select .result)
+    (c .select2 .result)
+ordered c =
+    let placed = c .before .before .before .before .before .before in
+    let start = placed .before .before in
+    let x = placed .before .placed .ensures in
+    let y = placed .placed2 .ensures in
+    let x-bits = reach-back (lit< tt) (place-addend (start .pre .0) .reach) in
+    let y-bits = reach-back (lit< tt) (place-addend (start .pre .1) .reach) in
+    record { larger = rw (x, y, x-bits, y-bits) at (c .before .select .ensures); smaller = rw (x, y, x-bits, y-bits) at (c .select2 .ensures) }
 
-positive-other : (c : tie.Else2) → Positive (c .before .before .before .before .args .other)
-positive-other c =
-    let start = c .before .before .before .before in
-    record { normal = kept-normal (start .pre .1 .kept) (c .if2 .left); reach = start .pre .1 .reach }
+placed-requires : tie.Need-placed-requires
+placed-requires c κs = search needs
 
-returns : tie.Need-returns
-returns c =
-    let start = c .before .before in
-    sum-zero (start .args .side) (start .args .self) (start .args .other) (start .pre .1 .kept) (c .if1 .taken)
+placed-requires-2 : tie.Need-placed-requires-2
+placed-requires-2 c κs = search needs
 
-returns-2 : tie.Need-returns-2
-returns-2 c =
-    let start = c .before .before .before .before in
-    sum-zero (start .args .side) (start .args .other) (start .args .self) (start .pre .0 .kept) (c .if2 .taken)
-    ∙ sum-comm (start .args .side) (start .args .other) (start .args .self)
+select-requires : tie.Need-select-requires
+select-requires c κs = search needs
+
+select-requires-2 : tie.Need-select-requires-2
+select-requires-2 c κs = search needs
 
 add-requires : tie.Need-add-requires
 add-requires c κs =
-    let both = c .before .before .before .before .before in
-    let start = both .before .before .before .before in
-    (positive-other both, (positive-self both, order-yes (rw (reach-back (lit< tt) (start .pre .0 .reach), reach-back (lit< tt) (start .pre .1 .reach)) at (c .if3 .taken))))
+    let start = c .before .before .before .before .before .before .before .before in
+    ordered-addends (start .pre .0) (start .pre .1) (ordered c)
 
-add-requires-2 : tie.Need-add-requires-2
-add-requires-2 c κs =
-    let both = c .before .before .before .before .before in
-    let start = both .before .before .before .before in
-    (positive-self both, (positive-other both, order-no (rw (reach-back (lit< tt) (start .pre .0 .reach), reach-back (lit< tt) (start .pre .1 .reach)) at (c .if3 .left))))
-
-returns-3 : tie.Need-returns-3
-returns-3 c =
-    let start = c .before .before .before .before .before .before .before .before .before .before in
-    c .add .ensures ∙ sum-comm (start .args .side) (start .args .other) (start .args .self)
-
-returns-4 : tie.Need-returns-4
-returns-4 c = c .add2 .ensures
+returns : tie.Need-returns
+returns c = c .add .ensures ∙ ordered-sum (c .before .before .before .before .before .before .before .before .before .args .side) (ordered (c .before))
 
 pub sum-spec : {M : Type 1} → statement M
-sum-spec = tie.close (tie.spec returns returns-2 add-requires add-requires-2 returns-3 returns-4)
+sum-spec = tie.close (tie.spec placed-requires placed-requires-2 select-requires select-requires-2 add-requires returns)

@@ -1,97 +1,92 @@
 -- `add` meets its contract.
 -- Assumes nothing.
-use Prim.Native.Nat.{_*_, _%_, _^_, _<_}
-use mathlib.Core.Path.{_≡_}
+use Prim.Native.Nat.{_+_, _*_, _%_, _^_, _≤_, _<_}
+use mathlib.Core.Path.{_≡_, _∙_}
 use borrow.Author.Needs.{needs}
-use native.Mathlib.Nat.{mod-eq-of-lt, lt-trans}
+use native.Mathlib.Nat.{mod-eq-of-lt}
 use native.Mathlib.Omega.{arith}
 use lib.Dec.{lit<, lit≤}
-use lib.IntN.{pos, _+ℤ_}
-use Rattle.model.specs.Fraction.{plus}
-use Rattle.kept.specs.Rounding.{value, sum}
-use Rattle.kept.specs.Rounding.Exponents.{reach-weaken, reach-back}
-use Rattle.kept.specs.Rounding.Arithmetic.{between-exact, sum-near, sum-far, sum-word}
+use lib.IntN.{pos, _-ℤ_}
+use mir.Syntax.{w32}
+use mir.Val.{toZ, ofZ}
+use mir.Facts.{toZ-ofZ}
+use Rattle.model.specs.Fraction.Laws.{same-refl}
+use Rattle.kept.specs.Rounding.{scaled}
+use Rattle.kept.specs.Rounding.Exponents.{reach-minus, reach-whole, reach-weaken, reach-back}
+use Rattle.kept.specs.Rounding.Arithmetic.{between-exact}
+use Rattle.kept.specs.Rounding.Sums.{Gap, gap-few, sum-word, round-sum}
 use Rattle.kept.proofs.rounding.add.Statement.{statement}
 use Rattle.kept.proofs.rounding.add.Tie as tie
 
-apart : (c : tie.After-gap) → c .before .before .before .args .x .exponent ≡ c .before .before .before .args .y .exponent +ℤ pos (c .gap .result)
-apart c =
+gap : (c : tie.After-gap) → Gap (c .before .before .before .args .x .exponent) (c .before .before .before .args .y .exponent) (c .gap .result)
+gap c =
     let start = c .before .before .before in
     rw (reach-back (lit< tt) (start .pre .0 .reach), reach-back (lit< tt) (start .pre .1 .0 .reach)) at (c .gap .ensures)
 
--- The shift loses no digit.
-word : (c : tie.Then1) → c .before .before .before .before .args .x .significand * 2 ^ c .before .gap .result < 2 ^ 63
-word c = sum-word (c .before .before .before .before .pre .0 .normal .below) (c .if1 .taken)
-
-whole : (c : tie.Then1)
-    → c .before .before .before .before .args .x .significand * 2 ^ c .before .gap .result % 2 ^ 64
-    ≡ c .before .before .before .before .args .x .significand * 2 ^ c .before .gap .result
-whole c = mod-eq-of-lt (lt-trans (word c) (lit< tt))
+digits : (c : tie.After-gap)
+    → c .before .before .before .args .x .significand * 2 ^ c .gap .result + c .before .before .before .args .y .significand < 2 ^ 64
+digits c =
+    let start = c .before .before .before in
+    sum-word (start .pre .0 .small) (start .pre .1 .0 .small) (gap-few (gap c))
 
 gap-requires : tie.Need-gap-requires
 gap-requires c κs = search needs
 
-cast-keep : tie.Need-cast-keep
-cast-keep c = search needs
+-- The shift loses no digit.
+whole : (c : tie.After-gap)
+    → c .before .before .before .args .x .significand * 2 ^ c .gap .result % 2 ^ 64
+    ≡ c .before .before .before .args .x .significand * 2 ^ c .gap .result
+whole c = mod-eq-of-lt (omega (arith, digits c))
 
-cast-keep-2 : tie.Need-cast-keep-2
-cast-keep-2 c = search needs
+exponent : (c : tie.After-lowered)
+    → toZ w32 (ofZ w32 (c .lowered .result))
+    ≡ c .before .before .before .before .before .before .before .args .x .exponent -ℤ pos (c .before .before .before .before .gap .result)
+exponent c =
+    let start = c .before .before .before .before .before .before .before in
+    rw (toZ-ofZ {w = w32} {z = c .lowered .result} (record { sfits = c .lowered .ok }))
+    (rw (reach-back (lit< tt) (start .pre .0 .reach)) at (c .lowered .ensures))
 
-shl-keep : tie.Need-shl-keep
-shl-keep c = search needs
+cast-v : tie.Need-cast-v
+cast-v c = search needs
 
-cast-keep-3 : tie.Need-cast-keep-3
-cast-keep-3 c = search needs
+cast-v-2 : tie.Need-cast-v-2
+cast-v-2 c = search needs
 
-add-keep : tie.Need-add-keep
-add-keep c = record { fits = rw (whole (c .before .before)) (omega (arith, word (c .before .before), c .before .before .before .before .before .before .pre .1 .0 .normal .below)) }
+shl-v : tie.Need-shl-v
+shl-v c = omega (arith, gap-few (gap (c .before)))
+
+cast-v-3 : tie.Need-cast-v-3
+cast-v-3 c = search needs
+
+add-v : tie.Need-add-v
+add-v c = record { fits = rw (whole (c .before .before)) (digits (c .before .before)) }
+
+lowered-requires : tie.Need-lowered-requires
+lowered-requires c κs =
+    let start = c .before .before .before .before .before .before in (
+      rw (reach-back (lit< tt) (start .pre .0 .reach)) (start .pre .0 .reach),
+      omega (arith, gap-few (gap (c .before .before .before))),
+    )
 
 keep-requires : tie.Need-keep-requires
 keep-requires c κs =
-    let start = c .before .before .before .before .before .before .before in
-    (rw (reach-back (lit< tt) (start .pre .1 .0 .reach)) (reach-weaken (lit≤ tt) (start .pre .1 .0 .reach)), λ none. absurd (omega arith))
-
-cast-keep-4 : tie.Need-cast-keep-4
-cast-keep-4 c = search needs
-
-keep-requires-2 : tie.Need-keep-requires-2
-keep-requires-2 c κs =
-    let start = c .before .before .before .before .before .before in
-    (rw (reach-back (lit< tt) (start .pre .0 .reach)) (reach-weaken (lit≤ tt) (start .pre .0 .reach)), λ _. start .pre .0 .normal .least)
+    let apart = c .before .before .before .before in
+    let start = apart .before .before .before in (
+      rw (exponent c) (reach-weaken {n = 1000000032} (lit≤ tt) (reach-minus (start .pre .0 .reach) (reach-whole (gap-few (gap apart))))),
+      λ none. absurd (omega arith),
+    )
 
 returns : tie.Need-returns
-unfolding sum
 returns c =
-    let near = c .before .before .before .before in
-    let start = near .before .before .before .before in
+    let apart = c .before .before .before .before .before in
+    let start = apart .before .before .before in
     let x = start .args .x in
     let y = start .args .y in
-    (rw (whole near, reach-back (lit< tt) (start .pre .1 .0 .reach)) at (c .keep .ensures)) (plus (value x) (value y))
-    (between-exact (sum-near (x .significand) (y .significand) (x .exponent) (y .exponent) (near .before .gap .result) (apart (near .before))))
-
-returns-2 : tie.Need-returns-2
-unfolding sum
-returns-2 c =
-    let far = c .before .before .before in
-    let start = far .before .before .before .before in
-    let x = start .args .x in
-    let y = start .args .y in
-    (rw (reach-back (lit< tt) (start .pre .0 .reach)) at (c .keep2 .ensures)) (plus (value x) (value y))
-    (sum-far (x .significand) (y .significand) (x .exponent) (y .exponent) (far .before .gap .result) (apart (far .before))
-    (far .if1 .left) (start .pre .1 .0 .normal))
+    let r = apart .gap .result in
+    (rw (whole apart, exponent (c .before)) at (c .keep .ensures)) (scaled (x .significand * 2 ^ r + y .significand) (x .exponent -ℤ pos r))
+    (between-exact same-refl)
+    ∙ round-sum (start .args .side) x y (start .pre .0) (start .pre .1 .0) (gap apart)
 
 pub add-spec : {M : Type 1} → statement M
 add-spec =
-    tie.close
-    (tie.spec
-    gap-requires
-    cast-keep
-    cast-keep-2
-    shl-keep
-    cast-keep-3
-    add-keep
-    keep-requires
-    cast-keep-4
-    keep-requires-2
-    returns
-    returns-2)
+    tie.close (tie.spec gap-requires cast-v cast-v-2 shl-v cast-v-3 add-v lowered-requires keep-requires returns)

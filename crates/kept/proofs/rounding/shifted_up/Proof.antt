@@ -1,0 +1,25 @@
+-- `shifted_up` meets its contract.
+-- Assumes nothing.
+use borrow.Author.Needs.{needs}
+use native.Mathlib.Nat.{mod-eq-of-lt}
+use Rattle.kept.specs.Rounding.Words.{Shifted, shifted}
+use Rattle.kept.proofs.rounding.shifted_up.Statement.{statement}
+use Rattle.kept.proofs.rounding.shifted_up.Tie as tie
+
+word : (c : tie.Start) → Shifted (c .args .v)
+word c = shifted (c .fits .v .fits)
+
+headroom-requires : tie.Need-headroom-requires
+headroom-requires c κs = search needs
+
+cast-result : tie.Need-cast-result
+cast-result c = search needs
+
+shl-result : tie.Need-shl-result
+shl-result c = rw (c .headroom .ensures) (word (c .before) .few)
+
+returns : tie.Need-returns
+returns c = rw (c .headroom .ensures) (mod-eq-of-lt (word (c .before) .below))
+
+pub shifted-up-spec : {M : Type 1} → statement M
+shifted-up-spec = tie.close (tie.spec headroom-requires cast-result shl-result returns)

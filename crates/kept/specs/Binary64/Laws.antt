@@ -1,0 +1,204 @@
+-- The f64 of a kept number: which exponents are shown, that every product on the way is exact, and the bits.
+-- Assumes nothing.
+use Prim.Native.Nat.{ℕ, zero, suc, _+_, _-_, _*_, _/_, _%_, _^_, _≤_, _<_}
+use mathlib.Core.Path.{_≡_, refl, sym, ap, _∙_}
+use mathlib.Core.Logic.{_⊎_, inl, inr}
+use mathlib.Core.Bool.{Bool, true, false, not, cond, true≢false}
+use native.Mathlib.Nat.{le-trans, le-antisymm, lt-of-lt-of-le, lt-of-not-le, not-le-of-lt, zero-add, zero-mul, mul-one, one-mul, mul-assoc}
+use native.Mathlib.Nat.{mul-pos, mul-le-mul-right, mul-div-cancel, mul-div-le, div-div-eq-div-mul, div-add-mod'}
+use native.Mathlib.Omega.{arith}
+use borrow.Author.Tests.{ltb-true, ltb-false, lt-ltb, le-ltb}
+use lib.Dec.{T, lit<, lit≤, ltb, nltb→le}
+use lib.IntN.{ℤ, pos, negsuc, _+ℤ_, +ℤ-assoc, pos-ne-negsuc}
+use lib.Pow.{pow-pos, pow-mono, pow-add, shl-lt, shl-shr}
+use lib.Signed.{ltZ}
+use lib.Ieee as Ieee
+use lib.Ieee.{Float, fin, binary64, up, down, size, toBits}
+use lib.Ieee.Digits.{size-lt, size-le}
+use lib.Ieee.Exact.{HasValue, round-exact}
+use lib.Ieee.Fits.{down-pos}
+use lib.Ieee.Positive.{mul-at, positive-of-value}
+use lib.Ieee.Scale.{round-same}
+use Rattle.model.specs.Fraction.{AtMost, Less}
+use Rattle.kept.specs.declared.Kept.{Kept}
+use Rattle.kept.specs.Rounding.{Normal, IsKept, nought, scaled, value}
+use Rattle.kept.specs.Binary64.{leastShown, Shown, Doublings, ShownExponent, IsBinary64, scaledBy}
+
+-- A normal significand against powers of two.
+normal-positive : {s : ℕ} → Normal s → 0 < s
+normal-positive n = omega arith
+
+under-power : {s : ℕ} → Normal s → (a b : ℕ) → 32 + a ≤ b → s * 2 ^ a < 2 ^ b
+under-power n a b l = lt-of-lt-of-le (shl-lt 32 a (n .below)) (pow-mono l)
+
+over-power : {s : ℕ} → Normal s → (a b : ℕ) → b ≤ 31 + a → 2 ^ b ≤ s * 2 ^ a
+over-power n a b l = le-trans (pow-mono l) (rw (pow-add 2 31 a) (mul-le-mul-right (2 ^ a) (n .least)))
+
+-- Below 2^−800 are zero and the exponents below −831.
+pub zero-below : (e : ℤ) → Less (scaled 0 e) leastShown
+unfolding scaled leastShown
+zero-below e = record { cross = rw (zero-mul, one-mul (down e)) (down-pos e) }
+
+pub below-least : {s : ℕ} → Normal s → (e : ℤ) → ltZ e (negsuc 830) ≡ true → Less (scaled s e) leastShown
+unfolding scaled leastShown
+below-least n (pos k) t = absurd (true≢false (sym t))
+below-least {s} n (negsuc k) t =
+    record { cross = rw (mul-one s, one-mul (2 ^ suc k)) (under-power n 800 (suc k) (omega (arith, ltb-true 830 k t))) }
+
+pub from-least : {s : ℕ} → Normal s → (e : ℤ) → ltZ e (negsuc 830) ≡ false → AtMost leastShown (scaled s e)
+unfolding scaled leastShown
+from-least n (pos k) t = record { cross = mul-pos (mul-pos (normal-positive n) (pow-pos k)) (pow-pos 800) }
+from-least {s} n (negsuc k) t =
+    record { cross = rw (mul-one s, one-mul (2 ^ suc k)) (over-power n 800 (suc k) (omega (arith, ltb-false 830 k t))) }
+
+-- So what is shown is not zero, and its exponent is from −831 to 192.
+pub nonzero-normal : {x : Kept} → IsKept x → (x .significand ≡ 0 → ⊥) → Normal (x .significand)
+unfolding nought
+nonzero-normal {x} kept h = go (kept .form)
+  where
+    go : (x ≡ nought) ⊎ Normal (x .significand) → Normal (x .significand)
+    go (inl e) = absurd (h (ap (λ y. y .significand) e))
+    go (inr n) = n
+
+pub shown-normal : {x : Kept} → IsKept x → AtMost leastShown (value x) → Normal (x .significand)
+shown-normal {x} kept l = nonzero-normal kept (λ e. not-le-of-lt (zero-below (x .exponent) .cross) ((rw e at l) .cross))
+
+pub shown-exponent : {x : Kept} → Shown x → ShownExponent (x .exponent)
+unfolding scaled
+shown-exponent {x} shown = go (x .exponent) (shown .least) (shown .below)
+  where
+    n : Normal (x .significand)
+    n = shown-normal (shown .kept) (shown .least)
+
+    go : (e : ℤ) → AtMost leastShown (scaled (x .significand) e) → Less (scaled (x .significand) e) (scaled 1 (pos 224)) → ShownExponent e
+    go (pos k) l u =
+        let below : k < 193 = lt-of-not-le (λ g. not-le-of-lt (simp mul-one at (u .cross)) (over-power n k 224 (omega arith))) in
+        record { n = k + 831; doublings = record { is = refl; below = omega arith } }
+    go (negsuc k) l u =
+        let least : k < 831 = lt-of-not-le (λ g. not-le-of-lt (below-least n (negsuc k) (lt-ltb 830 k g) .cross) (l .cross)) in
+        record { n = 831 - suc k; doublings = record { is = rw (le-ltb 831 (suc k)); below = omega arith } }
+
+-- s × 2^e = s × 2^k / 2^a where k = e + a.
+raised : (s : ℕ) (e : ℤ) (a k : ℕ) → pos k ≡ e +ℤ pos a → s * up e * 2 ^ a ≡ s * 2 ^ k * down e
+raised s (pos m) a k h =
+    let is : k ≡ m + a = cc in
+    rw (is, pow-add 2 m a, mul-one, mul-assoc s (2 ^ m))
+raised s (negsuc m) a k h = go (ltb a (suc m)) (nltb→le a (suc m)) h
+  where
+    go : (b : Bool) → (T (not b) → suc m ≤ a) → pos k ≡ cond b (negsuc (suc m - suc a)) (pos (a - suc m))
+        → s * 1 * 2 ^ a ≡ s * 2 ^ k * 2 ^ suc m
+    go true l g = absurd (pos-ne-negsuc _ _ g)
+    go false l g =
+        let is : k ≡ a - suc m = cc in
+        let below = l tt in
+        let sum : a ≡ k + suc m = omega arith in
+        rw (mul-one s, sum, pow-add 2 k (suc m), mul-assoc s (2 ^ k))
+
+-- s × 2^k units of 2^−1074, the least value of binary64 above zero.
+unfoldable pub inUnits : ℕ → ℕ → Float
+inUnits s k = Ieee.round binary64 false (s * 2 ^ k) (2 ^ 1074)
+
+-- Nothing is lost by rounding such a number, num / den: s has 32 digits, and the end of binary64 is far.
+nothing-lost : {s : ℕ} → Normal s → (k num den : ℕ) → k ≤ 2066 → 0 < den → num * 2 ^ 1074 ≡ s * 2 ^ k * den
+    → HasValue (Ieee.round binary64 false num den) false num den
+nothing-lost {s} n k num den l above e =
+    round-exact binary64 false num den s k above (lt-of-lt-of-le (n .below) (lit≤ tt)) (under-power n k 2098 (omega arith)) e
+
+units-exact : {s : ℕ} → Normal s → (k : ℕ) → k ≤ 2066 → HasValue (inUnits s k) false (s * 2 ^ k) (2 ^ 1074)
+unfolding inUnits
+units-exact {s} n k l = nothing-lost n k (s * 2 ^ k) (2 ^ 1074) l (pow-pos 1074) refl
+
+cast-exact : (s : ℕ) → Ieee.ofInt binary64 (pos s) ≡ inUnits s 1074
+unfolding inUnits Ieee.ofInt
+cast-exact s = round-same binary64 false s 1 (s * 2 ^ 1074) (2 ^ 1074) (lit< tt) (pow-pos 1074) (sym (mul-one _))
+
+-- A product by 2^(a − b) takes k to k + a − b, where it is exact again.
+product-exact : {s : ℕ} → Normal s → (k l a b : ℕ) (y : Float) → HasValue y false (2 ^ a) (2 ^ b) → k ≤ 2066 → k + a ≡ l + b
+    → Ieee.mul binary64 (inUnits s k) y ≡ inUnits s l
+unfolding inUnits
+product-exact {s} n k l a b y v small e =
+    let x = inUnits s k in
+    let w = units-exact n k small in
+    let p = positive-of-value x (s * 2 ^ k) (2 ^ 1074) w (mul-pos (normal-positive n) (pow-pos k)) in
+    let q = positive-of-value y (2 ^ a) (2 ^ b) v (pow-pos a) in
+    mul-at binary64 x y (s * 2 ^ k) (2 ^ 1074) (2 ^ a) (2 ^ b) p q (pow-pos 1074) (pow-pos b) w v
+    ∙ round-same binary64 false _ _ (s * 2 ^ l) (2 ^ 1074) (mul-pos (pow-pos 1074) (pow-pos b)) (pow-pos 1074) (cross (2 ^ 1074))
+  where
+    powers : 2 ^ k * 2 ^ a ≡ 2 ^ l * 2 ^ b
+    powers = rw (← pow-add 2 k a, ← pow-add 2 l b, e)
+
+    cross : (c : ℕ) → s * 2 ^ k * 2 ^ a * c ≡ s * 2 ^ l * (c * 2 ^ b)
+    cross c = omega (arith, ap (λ z. s * c * z) powers)
+
+scaled-exact : {s : ℕ} → Normal s → (digit k l j : ℕ) → digit < 2 → k ≤ 2066 → k + digit * j ≡ l
+    → scaledBy (inUnits s k) digit (fin false 1 (pos j)) ≡ inUnits s l
+unfolding scaledBy
+scaled-exact {s} n zero k l j binary small e = ap (inUnits s) (omega arith)
+scaled-exact n (suc zero) k l j binary small e =
+    product-exact n k l j 0 (fin false 1 (pos j)) (refl, ap (λ z. z * 1) (one-mul (2 ^ j))) small (omega arith)
+scaled-exact n (suc (suc digit)) k l j binary small e = absurd (omega arith)
+
+-- x is s × 2^−831 doubled n / j × j times: the binary digits of n from j on are done.
+pub record Doubled (s n j : ℕ) (x : Float) : Type 0 where
+  pub normal : Normal s
+  pub below : n < 1024
+  pub is : x ≡ inUnits s (243 + n / j * j)
+
+-- None is done: x is the cast of s, times 2^−831.
+pub undoubled : {s n : ℕ} → Normal s → n < 1024 → Doubled s n 1024 (Ieee.mul binary64 (Ieee.ofInt binary64 (pos s)) (fin false 1 (negsuc 830)))
+undoubled {s} {n} normal l = record {
+  normal = normal;
+  below = l;
+  is =
+      rw (cast-exact s)
+      (product-exact normal 1074 (243 + n / 1024 * 1024) 0 831 (fin false 1 (negsuc 830)) (refl, refl) (lit≤ tt) (omega arith));
+}
+
+-- One digit more.
+pub doubled : {s n : ℕ} {x r : Float} (j : ℕ) → Doubled s n (j * 2) x → r ≡ scaledBy x (n / j % 2) (fin false 1 (pos j)) → Doubled s n j r
+doubled {s} {n} j d e = record { normal = d .normal; below = d .below; is = e ∙ rw (d .is) one-more }
+  where
+    k : ℕ
+    k = n / (j * 2) * (j * 2)
+
+    digits : 243 + k + n / j % 2 * j ≡ 243 + n / j * j
+    digits = rw (← div-div-eq-div-mul n j 2) (omega (arith, ap (λ z. z * j) (div-add-mod' (n / j) 2)))
+
+    one-more : scaledBy (inUnits s (243 + k)) (n / j % 2) (fin false 1 (pos j)) ≡ inUnits s (243 + n / j * j)
+    one-more = scaled-exact (d .normal) (n / j % 2) (243 + k) _ j (omega arith) (omega (arith, d .below, mul-div-le n (j * 2))) digits
+
+-- A number from 2^z to below 2^(z + 1) has z + 1 binary digits.
+size-is : (v z : ℕ) → 2 ^ z ≤ v → v < 2 ^ suc z → size v ≡ suc z
+size-is v z l h = le-antisymm (size-le v (suc z) h) (lt-of-not-le (λ g. not-le-of-lt (lt-of-lt-of-le (size-lt v) (pow-mono g)) l))
+
+-- The bits of s × 2^(j + 21) units. That number has j + 53 binary digits; 53 stay, and the leading one adds one to the exponent field.
+bits-of : {s : ℕ} → Normal s → (j k : ℕ) (x : Float) → k ≡ j + 21 → HasValue x false (s * 2 ^ k) (2 ^ 1074)
+    → toBits binary64 x ≡ j * 2 ^ 52 + s * 2 ^ 21
+unfolding toBits
+bits-of n j k (fin true m e) h v = absurd (true≢false (v .0))
+bits-of {s} n j k (fin false m e) h v =
+    let w = s * 2 ^ k in
+    let units : m * up e * 2 ^ 1074 / down e ≡ w = ap (λ z. z / down e) (v .1) ∙ mul-div-cancel w (down-pos e) in
+    let digits = size-is w (j + 52) (over-power n k (j + 52) (omega arith)) (under-power n k (suc (j + 52)) (omega arith)) in
+    let dropped : suc (j + 52) - 53 ≡ j = omega arith in
+    let kept : w / 2 ^ j ≡ s * 2 ^ 21 = ap (λ z. z / 2 ^ j) (rw (h, pow-add 2 j 21) (omega arith)) ∙ shl-shr (s * 2 ^ 21) j in
+    rw (units, digits, dropped, kept, zero-add)
+
+-- All digits are done.
+pub is-binary64 : {x : Kept} {n : ℕ} {r : Float} → Doublings (x .exponent) n → Doubled (x .significand) n 1 r → IsBinary64 x r
+unfolding scaled inUnits
+is-binary64 {x} {n} {r} h d =
+    let s = x .significand in
+    let e = x .exponent in
+    let k = n + 243 in
+    let cross = raised s e 1074 k (ap (λ z. z +ℤ pos 243) (h .is) ∙ +ℤ-assoc e (pos 831) (pos 243)) in
+    let units : r ≡ inUnits s k = d .is ∙ ap (inUnits s) (omega arith) in
+    let rounded = units ∙ round-same binary64 false (s * 2 ^ k) (2 ^ 1074) (s * up e) (down e) (pow-pos 1074) (down-pos e) (sym cross) in
+    let bits = bits-of (d .normal) (n + 222) k r (omega arith) (rw units (units-exact (d .normal) k (omega arith))) in
+    record {
+      is = rounded;
+      exact = rw rounded (nothing-lost (d .normal) k (s * up e) (down e) (omega arith) (down-pos e) cross);
+      sign = omega arith;
+      exponent-field = ap pos (omega arith) ∙ ap (λ z. z +ℤ pos 223) (h .is) ∙ +ℤ-assoc e (pos 831) (pos 223);
+      fraction-field = omega arith;
+    }
