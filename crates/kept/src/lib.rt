@@ -1,5 +1,5 @@
-// Kept numbers: the arithmetic of the bounds. Every result is the exact one rounded once, down on the low side and up
-// on the high side, to 32 binary digits.
+// Kept numbers: the arithmetic that every bound is made by. A method takes the side for which it works, so that one body
+// serves both.
 ghost use mathlib.Core.Path.{_≡_};
 ghost use Prim.Native.Nat.{_<_};
 ghost use Rattle.kept.specs.Rounding.{Operand, nought, unity, product, sum, quotient, ofInteger, ofBasisPoints};
@@ -25,6 +25,8 @@ pub struct Kept {
     pub exponent: i32,
 }
 
+// Each result is that of the exact step, rounded once to a kept number: on the low side the greatest that is not above it, on
+// the high side the least that is not below it.
 impl Kept {
     pub fn zero() -> Kept
         ensures { λ r. ⌜ r ≡ nought ⌝ }
@@ -44,18 +46,21 @@ impl Kept {
         }
     }
 
+    // n, any whole number.
     pub fn from_integer(n: u64, side: Side) -> Kept
         ensures { λ r. ⌜ r ≡ ofInteger side n ⌝ }
     {
         keep(n, 0, 0, side)
     }
 
+    // p / 10,000, any whole number of basis points.
     pub fn from_basis_points(p: u32, side: Side) -> Kept
         ensures { λ r. ⌜ r ≡ ofBasisPoints side p ⌝ }
     {
         ratio(p as u64, 10000, 0, side)
     }
 
+    // self × other
     pub fn product(self, other: Kept, side: Side) -> Kept
         requires { ⌜ Operand self ⌝ ∗ ⌜ Operand other ⌝ }
         ensures { λ r. ⌜ r ≡ product side self other ⌝ }
@@ -64,6 +69,7 @@ impl Kept {
         keep(v, 0, self.exponent + other.exponent, side)
     }
 
+    // self + other
     pub fn sum(self, other: Kept, side: Side) -> Kept
         requires { ⌜ Operand self ⌝ ∗ ⌜ Operand other ⌝ }
         ensures { λ r. ⌜ r ≡ sum side self other ⌝ }
@@ -74,6 +80,7 @@ impl Kept {
         add(select(swapped, y, x), select(swapped, x, y), side)
     }
 
+    // self / divisor
     pub fn quotient(self, divisor: u32, side: Side) -> Kept
         requires { ⌜ Operand self ⌝ ∗ ⌜ 0 < divisor ⌝ }
         ensures { λ r. ⌜ ((above : 0 < divisor) → r ≡ quotient side self divisor above) ⌝ }

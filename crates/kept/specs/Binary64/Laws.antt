@@ -2,14 +2,13 @@
 -- Assumes nothing.
 use Prim.Native.Nat.{ℕ, zero, suc, _+_, _-_, _*_, _/_, _%_, _^_, _≤_, _<_}
 use mathlib.Core.Path.{_≡_, refl, sym, ap, _∙_}
-use mathlib.Core.Logic.{_⊎_, inl, inr}
-use mathlib.Core.Bool.{Bool, true, false, not, cond, true≢false}
-use native.Mathlib.Nat.{le-trans, le-antisymm, lt-of-lt-of-le, lt-of-not-le, not-le-of-lt, zero-add, zero-mul, mul-one, one-mul, mul-assoc}
+use mathlib.Core.Bool.{true, false, true≢false}
+use native.Mathlib.Nat.{le-trans, le-antisymm, lt-of-lt-of-le, lt-of-not-le, not-le-of-lt, zero-add, zero-mul, mul-one, one-mul}
 use native.Mathlib.Nat.{mul-pos, mul-le-mul-right, mul-div-cancel, mul-div-le, div-div-eq-div-mul, div-add-mod'}
 use native.Mathlib.Omega.{arith}
 use borrow.Author.Tests.{ltb-true, ltb-false, lt-ltb, le-ltb}
-use lib.Dec.{T, lit<, lit≤, ltb, nltb→le}
-use lib.IntN.{ℤ, pos, negsuc, _+ℤ_, +ℤ-assoc, pos-ne-negsuc}
+use lib.Dec.{lit<, lit≤}
+use lib.IntN.{ℤ, pos, negsuc, _+ℤ_, +ℤ-assoc}
 use lib.Pow.{pow-pos, pow-mono, pow-add, shl-lt, shl-shr}
 use lib.Signed.{ltZ}
 use lib.Ieee as Ieee
@@ -21,13 +20,12 @@ use lib.Ieee.Positive.{mul-at, positive-of-value}
 use lib.Ieee.Scale.{round-same}
 use Rattle.model.specs.Fraction.{AtMost, Less}
 use Rattle.kept.specs.declared.Kept.{Kept}
-use Rattle.kept.specs.Rounding.{Normal, IsKept, nought, scaled, value}
+use Rattle.kept.specs.Rounding.{Normal, IsKept, scaled, value}
+use Rattle.kept.specs.Rounding.Powers.{scaled-shift}
+use Rattle.kept.specs.Rounding.Laws.{normal-positive, kept-normal}
 use Rattle.kept.specs.Binary64.{leastShown, Shown, Doublings, ShownExponent, IsBinary64, scaledBy}
 
 -- A normal significand against powers of two.
-normal-positive : {s : ℕ} → Normal s → 0 < s
-normal-positive n = omega arith
-
 under-power : {s : ℕ} → Normal s → (a b : ℕ) → 32 + a ≤ b → s * 2 ^ a < 2 ^ b
 under-power n a b l = lt-of-lt-of-le (shl-lt 32 a (n .below)) (pow-mono l)
 
@@ -52,16 +50,8 @@ from-least {s} n (negsuc k) t =
     record { cross = rw (mul-one s, one-mul (2 ^ suc k)) (over-power n 800 (suc k) (omega (arith, ltb-false 830 k t))) }
 
 -- So what is shown is not zero, and its exponent is from −831 to 192.
-pub nonzero-normal : {x : Kept} → IsKept x → (x .significand ≡ 0 → ⊥) → Normal (x .significand)
-unfolding nought
-nonzero-normal {x} kept h = go (kept .form)
-  where
-    go : (x ≡ nought) ⊎ Normal (x .significand) → Normal (x .significand)
-    go (inl e) = absurd (h (ap (λ y. y .significand) e))
-    go (inr n) = n
-
 pub shown-normal : {x : Kept} → IsKept x → AtMost leastShown (value x) → Normal (x .significand)
-shown-normal {x} kept l = nonzero-normal kept (λ e. not-le-of-lt (zero-below (x .exponent) .cross) ((rw e at l) .cross))
+shown-normal {x} kept l = kept-normal kept (λ e. not-le-of-lt (zero-below (x .exponent) .cross) ((rw e at l) .cross))
 
 pub shown-exponent : {x : Kept} → Shown x → ShownExponent (x .exponent)
 unfolding scaled
@@ -78,25 +68,14 @@ shown-exponent {x} shown = go (x .exponent) (shown .least) (shown .below)
         let least : k < 831 = lt-of-not-le (λ g. not-le-of-lt (below-least n (negsuc k) (lt-ltb 830 k g) .cross) (l .cross)) in
         record { n = 831 - suc k; doublings = record { is = rw (le-ltb 831 (suc k)); below = omega arith } }
 
--- s × 2^e = s × 2^k / 2^a where k = e + a.
-raised : (s : ℕ) (e : ℤ) (a k : ℕ) → pos k ≡ e +ℤ pos a → s * up e * 2 ^ a ≡ s * 2 ^ k * down e
-raised s (pos m) a k h =
-    let is : k ≡ m + a = cc in
-    rw (is, pow-add 2 m a, mul-one, mul-assoc s (2 ^ m))
-raised s (negsuc m) a k h = go (ltb a (suc m)) (nltb→le a (suc m)) h
-  where
-    go : (b : Bool) → (T (not b) → suc m ≤ a) → pos k ≡ cond b (negsuc (suc m - suc a)) (pos (a - suc m))
-        → s * 1 * 2 ^ a ≡ s * 2 ^ k * 2 ^ suc m
-    go true l g = absurd (pos-ne-negsuc _ _ g)
-    go false l g =
-        let is : k ≡ a - suc m = cc in
-        let below = l tt in
-        let sum : a ≡ k + suc m = omega arith in
-        rw (mul-one s, sum, pow-add 2 k (suc m), mul-assoc s (2 ^ k))
+-- s × 2^e = s × 2^k / 2^a, for k = e + a
+whole-power : (s : ℕ) (e : ℤ) (a k : ℕ) → pos k ≡ e +ℤ pos a → s * up e * 2 ^ a ≡ s * 2 ^ k * down e
+unfolding scaled
+whole-power s e a k is = omega (arith, scaled-shift s e a is .cross)
 
--- s × 2^k units of 2^−1074, the least value of binary64 above zero.
-unfoldable pub inUnits : ℕ → ℕ → Float
-inUnits s k = Ieee.round binary64 false (s * 2 ^ k) (2 ^ 1074)
+-- s × 2^k times 2^−1074, the least value of binary64 above zero.
+unfoldable pub multiple : ℕ → ℕ → Float
+multiple s k = Ieee.round binary64 false (s * 2 ^ k) (2 ^ 1074)
 
 -- Nothing is lost by rounding such a number, num / den: s has 32 digits, and the end of binary64 is far.
 nothing-lost : {s : ℕ} → Normal s → (k num den : ℕ) → k ≤ 2066 → 0 < den → num * 2 ^ 1074 ≡ s * 2 ^ k * den
@@ -104,21 +83,21 @@ nothing-lost : {s : ℕ} → Normal s → (k num den : ℕ) → k ≤ 2066 → 0
 nothing-lost {s} n k num den l above e =
     round-exact binary64 false num den s k above (lt-of-lt-of-le (n .below) (lit≤ tt)) (under-power n k 2098 (omega arith)) e
 
-units-exact : {s : ℕ} → Normal s → (k : ℕ) → k ≤ 2066 → HasValue (inUnits s k) false (s * 2 ^ k) (2 ^ 1074)
-unfolding inUnits
-units-exact {s} n k l = nothing-lost n k (s * 2 ^ k) (2 ^ 1074) l (pow-pos 1074) refl
+multiple-exact : {s : ℕ} → Normal s → (k : ℕ) → k ≤ 2066 → HasValue (multiple s k) false (s * 2 ^ k) (2 ^ 1074)
+unfolding multiple
+multiple-exact {s} n k l = nothing-lost n k (s * 2 ^ k) (2 ^ 1074) l (pow-pos 1074) refl
 
-cast-exact : (s : ℕ) → Ieee.ofInt binary64 (pos s) ≡ inUnits s 1074
-unfolding inUnits Ieee.ofInt
+cast-exact : (s : ℕ) → Ieee.ofInt binary64 (pos s) ≡ multiple s 1074
+unfolding multiple Ieee.ofInt
 cast-exact s = round-same binary64 false s 1 (s * 2 ^ 1074) (2 ^ 1074) (lit< tt) (pow-pos 1074) (sym (mul-one _))
 
 -- A product by 2^(a − b) takes k to k + a − b, where it is exact again.
 product-exact : {s : ℕ} → Normal s → (k l a b : ℕ) (y : Float) → HasValue y false (2 ^ a) (2 ^ b) → k ≤ 2066 → k + a ≡ l + b
-    → Ieee.mul binary64 (inUnits s k) y ≡ inUnits s l
-unfolding inUnits
+    → Ieee.mul binary64 (multiple s k) y ≡ multiple s l
+unfolding multiple
 product-exact {s} n k l a b y v small e =
-    let x = inUnits s k in
-    let w = units-exact n k small in
+    let x = multiple s k in
+    let w = multiple-exact n k small in
     let p = positive-of-value x (s * 2 ^ k) (2 ^ 1074) w (mul-pos (normal-positive n) (pow-pos k)) in
     let q = positive-of-value y (2 ^ a) (2 ^ b) v (pow-pos a) in
     mul-at binary64 x y (s * 2 ^ k) (2 ^ 1074) (2 ^ a) (2 ^ b) p q (pow-pos 1074) (pow-pos b) w v
@@ -131,9 +110,9 @@ product-exact {s} n k l a b y v small e =
     cross c = omega (arith, ap (λ z. s * c * z) powers)
 
 scaled-exact : {s : ℕ} → Normal s → (digit k l j : ℕ) → digit < 2 → k ≤ 2066 → k + digit * j ≡ l
-    → scaledBy (inUnits s k) digit (fin false 1 (pos j)) ≡ inUnits s l
+    → scaledBy (multiple s k) digit (fin false 1 (pos j)) ≡ multiple s l
 unfolding scaledBy
-scaled-exact {s} n zero k l j binary small e = ap (inUnits s) (omega arith)
+scaled-exact {s} n zero k l j binary small e = ap (multiple s) (omega arith)
 scaled-exact n (suc zero) k l j binary small e =
     product-exact n k l j 0 (fin false 1 (pos j)) (refl, ap (λ z. z * 1) (one-mul (2 ^ j))) small (omega arith)
 scaled-exact n (suc (suc digit)) k l j binary small e = absurd (omega arith)
@@ -142,7 +121,7 @@ scaled-exact n (suc (suc digit)) k l j binary small e = absurd (omega arith)
 pub record Doubled (s n j : ℕ) (x : Float) : Type 0 where
   pub normal : Normal s
   pub below : n < 1024
-  pub is : x ≡ inUnits s (243 + n / j * j)
+  pub is : x ≡ multiple s (243 + n / j * j)
 
 -- None is done: x is the cast of s, times 2^−831.
 pub undoubled : {s n : ℕ} → Normal s → n < 1024 → Doubled s n 1024 (Ieee.mul binary64 (Ieee.ofInt binary64 (pos s)) (fin false 1 (negsuc 830)))
@@ -164,37 +143,37 @@ doubled {s} {n} j d e = record { normal = d .normal; below = d .below; is = e �
     digits : 243 + k + n / j % 2 * j ≡ 243 + n / j * j
     digits = rw (← div-div-eq-div-mul n j 2) (omega (arith, ap (λ z. z * j) (div-add-mod' (n / j) 2)))
 
-    one-more : scaledBy (inUnits s (243 + k)) (n / j % 2) (fin false 1 (pos j)) ≡ inUnits s (243 + n / j * j)
+    one-more : scaledBy (multiple s (243 + k)) (n / j % 2) (fin false 1 (pos j)) ≡ multiple s (243 + n / j * j)
     one-more = scaled-exact (d .normal) (n / j % 2) (243 + k) _ j (omega arith) (omega (arith, d .below, mul-div-le n (j * 2))) digits
 
 -- A number from 2^z to below 2^(z + 1) has z + 1 binary digits.
 size-is : (v z : ℕ) → 2 ^ z ≤ v → v < 2 ^ suc z → size v ≡ suc z
 size-is v z l h = le-antisymm (size-le v (suc z) h) (lt-of-not-le (λ g. not-le-of-lt (lt-of-lt-of-le (size-lt v) (pow-mono g)) l))
 
--- The bits of s × 2^(j + 21) units. That number has j + 53 binary digits; 53 stay, and the leading one adds one to the exponent field.
+-- The bits of s × 2^(j + 21) times the least value. That number has j + 53 binary digits; 53 stay, and the leading one adds one to the exponent field.
 bits-of : {s : ℕ} → Normal s → (j k : ℕ) (x : Float) → k ≡ j + 21 → HasValue x false (s * 2 ^ k) (2 ^ 1074)
     → toBits binary64 x ≡ j * 2 ^ 52 + s * 2 ^ 21
 unfolding toBits
 bits-of n j k (fin true m e) h v = absurd (true≢false (v .0))
 bits-of {s} n j k (fin false m e) h v =
     let w = s * 2 ^ k in
-    let units : m * up e * 2 ^ 1074 / down e ≡ w = ap (λ z. z / down e) (v .1) ∙ mul-div-cancel w (down-pos e) in
+    let whole : m * up e * 2 ^ 1074 / down e ≡ w = ap (λ z. z / down e) (v .1) ∙ mul-div-cancel w (down-pos e) in
     let digits = size-is w (j + 52) (over-power n k (j + 52) (omega arith)) (under-power n k (suc (j + 52)) (omega arith)) in
     let dropped : suc (j + 52) - 53 ≡ j = omega arith in
     let kept : w / 2 ^ j ≡ s * 2 ^ 21 = ap (λ z. z / 2 ^ j) (rw (h, pow-add 2 j 21) (omega arith)) ∙ shl-shr (s * 2 ^ 21) j in
-    rw (units, digits, dropped, kept, zero-add)
+    rw (whole, digits, dropped, kept, zero-add)
 
 -- All digits are done.
 pub is-binary64 : {x : Kept} {n : ℕ} {r : Float} → Doublings (x .exponent) n → Doubled (x .significand) n 1 r → IsBinary64 x r
-unfolding scaled inUnits
+unfolding scaled multiple
 is-binary64 {x} {n} {r} h d =
     let s = x .significand in
     let e = x .exponent in
     let k = n + 243 in
-    let cross = raised s e 1074 k (ap (λ z. z +ℤ pos 243) (h .is) ∙ +ℤ-assoc e (pos 831) (pos 243)) in
-    let units : r ≡ inUnits s k = d .is ∙ ap (inUnits s) (omega arith) in
-    let rounded = units ∙ round-same binary64 false (s * 2 ^ k) (2 ^ 1074) (s * up e) (down e) (pow-pos 1074) (down-pos e) (sym cross) in
-    let bits = bits-of (d .normal) (n + 222) k r (omega arith) (rw units (units-exact (d .normal) k (omega arith))) in
+    let cross = whole-power s e 1074 k (ap (λ z. z +ℤ pos 243) (h .is) ∙ +ℤ-assoc e (pos 831) (pos 243)) in
+    let is : r ≡ multiple s k = d .is ∙ ap (multiple s) (omega arith) in
+    let rounded = is ∙ round-same binary64 false (s * 2 ^ k) (2 ^ 1074) (s * up e) (down e) (pow-pos 1074) (down-pos e) (sym cross) in
+    let bits = bits-of (d .normal) (n + 222) k r (omega arith) (rw is (multiple-exact (d .normal) k (omega arith))) in
     record {
       is = rounded;
       exact = rw rounded (nothing-lost (d .normal) k (s * up e) (down e) (omega arith) (down-pos e) cross);

@@ -1,26 +1,39 @@
 -- What rounding is: the greatest kept number not above, or the least not below. All else follows from that.
 -- Assumes nothing.
-use Prim.Native.Nat.{ℕ, zero, suc, _+_, _-_, _*_, _/_, _%_, _^_, _≤_, _<_}
+use Prim.Native.Nat.{ℕ, suc, _+_, _-_, _*_, _/_, _%_, _^_, _≤_, _<_}
 use mathlib.Core.Path.{_≡_, refl, sym, ap, _∙_}
 use mathlib.Core.Logic.{_⊎_, inl, inr}
-use mathlib.Core.Bool.{Bool, true, false, cond}
-use native.Mathlib.Nat.{eq-zero-or-pos, zero-mul, zero-div, zero-mod, add-zero, mul-le-mul-left, mul-le-mul-right, mul-lt-mul-of-pos-left, mul-pos, pow-succ', le-div-iff-mul-le, div-lt-iff-lt-mul, div-add-mod', mod-lt, lt-of-not-le, le-trans, lt-of-lt-of-le, not-le-of-lt, eq-of-mul-eq-mul-right}
+use native.Mathlib.Nat.{eq-zero-or-pos, zero-mul, zero-div, zero-mod, mul-le-mul-left, mul-le-mul-right, mul-pos}
+use native.Mathlib.Nat.{pow-succ', le-div-iff-mul-le, div-lt-iff-lt-mul, div-add-mod', mod-lt, lt-of-not-le}
+use native.Mathlib.Nat.{lt-of-lt-of-le, not-le-of-lt, eq-of-mul-eq-mul-right}
 use native.Mathlib.Omega.{arith}
-use lib.Dec.{eqb, lit<, lit≤}
+use lib.Dec.{lit<, lit≤}
 use lib.Pow.{pow-add, pow-pos, pow-mono}
 use lib.IntN.{ℤ, pos, _+ℤ_}
 use lib.Ieee.{up, down, minus, size}
 use lib.Ieee.Fits.{up-pos, down-pos}
 use lib.Ieee.Digits.{minus-val, size-lt, size-reaches}
-use borrow.Author.Tests.{eqb-true, eqb-false}
-use Rattle.model.specs.Fraction.{Fraction, Same, AtMost, Less, certainty}
-use Rattle.model.specs.Fraction.Laws.{same-refl, same-sym, same-trans, at-most-refl, at-most-trans, at-most-of-same, at-most-of-less, at-most-antisymm, less-at-most-trans, at-most-less-trans}
+use Rattle.model.specs.Fraction.{Fraction, Same, AtMost, certainty}
+use Rattle.model.specs.Fraction.Laws.{same-sym, same-trans, at-most-trans, at-most-of-same, at-most-antisymm, less-at-most-trans, at-most-less-trans}
 use Rattle.kept.specs.declared.Kept.{Kept}
 use Rattle.kept.specs.declared.Side.{Side}
 use Rattle.kept.specs.declared.Side.the-variants.{Low, High}
 use Rattle.kept.specs.Rounding.{scaled, value, nought, unity, Normal, IsKept, OnSide, Rounded, step, carry, round}
 use Rattle.kept.specs.Rounding.Powers.{scaled-shift, exponents}
 use Rattle.kept.specs.Rounding.Leading.{Between, Adjacent, carry-zero, rounded-leading, adjacent-leading}
+
+-- ---- the parts of a kept number
+
+pub normal-positive : {s : ℕ} → Normal s → 0 < s
+normal-positive n = omega arith
+
+pub kept-below : {x : Kept} → IsKept x → x .significand < 2 ^ 32
+unfolding nought
+kept-below {x} kept = elim (kept .form) [ inl is ↦ rw is (lit< tt) | inr normal ↦ normal .below ]
+
+pub kept-normal : {x : Kept} → IsKept x → (x .significand ≡ 0 → ⊥) → Normal (x .significand)
+unfolding nought
+kept-normal {x} kept not = elim (kept .form) [ inl is ↦ absurd (not (ap (λ y. y .significand) is)) | inr normal ↦ normal ]
 
 -- ---- a value has one kept number
 
@@ -38,9 +51,6 @@ apart : {s t : ℕ} → Normal s → Normal t → (e f : ℤ) (k : ℕ) → f �
 apart {s} {t} n m e f k is same =
     let equal : s ≡ t * 2 ^ suc k = scaled-factor s (t * 2 ^ suc k) e (same-trans same (scaled-shift t e (suc k) is)) in
     omega (arith, rw pow-succ' at equal, mul-le-mul-left t (pow-pos k))
-
-normal-positive : {s : ℕ} → Normal s → 0 < s
-normal-positive n = omega arith
 
 pub kept-unique : {x y : Kept} → IsKept x → IsKept y → Same (value x) (value y) → x ≡ y
 kept-unique {x} {y} k l = by-forms (k .form) (l .form)
@@ -182,7 +192,7 @@ step-none High = refl
 
 round-zero : (side : Side) (z : Fraction) → z .num ≡ 0 → round side z ≡ nought
 unfolding round
-round-zero side z none = rw (none, zero-mul) (rw (zero-div, zero-mod, step-none) (carry-zero _))
+round-zero side z none = simp (none, zero-mul, zero-div, zero-mod, step-none) (carry-zero _)
 
 -- The greatest kept number not above z, or the least not below it.
 pub round-is : (side : Side) (z : Fraction) → Rounded side z (round side z)

@@ -1,7 +1,7 @@
 -- The leading digits of a fraction, and its rounding from them.
 -- Assumes nothing.
 use Prim.Native.Nat.{ℕ, zero, suc, _+_, _*_, _/_, _^_, _≤_, _<_}
-use mathlib.Core.Path.{_≡_, refl, sym, ap, _∙_}
+use mathlib.Core.Path.{_≡_, refl, sym}
 use mathlib.Core.Logic.{_⊎_, inl, inr}
 use mathlib.Core.Bool.{Bool, true, false, cond}
 use native.Mathlib.Nat.{add-zero, div-one, div-eq-of-lt, zero-lt-suc, mul-le-mul-left, pow-succ', lt-of-not-le}
@@ -14,12 +14,12 @@ use lib.Pow.{pow-pos}
 use lib.IntN.{ℤ, pos, _+ℤ_, +ℤ-idr}
 use borrow.Author.Tests.{eqb-true, eqb-false, ne-eqb}
 use Rattle.model.specs.Fraction.{Fraction, Same, AtMost, Less}
-use Rattle.model.specs.Fraction.Laws.{same-refl, same-sym, at-most-trans, at-most-of-same, at-most-of-less, less-at-most-trans, at-most-less-trans, not-both}
+use Rattle.model.specs.Fraction.Laws.{same-refl, same-sym, at-most-trans, at-most-of-same, at-most-of-less, not-both}
 use Rattle.kept.specs.declared.Kept.{Kept}
 use Rattle.kept.specs.declared.Side.{Side}
 use Rattle.kept.specs.declared.Side.the-variants.{Low, High}
 use Rattle.kept.specs.Rounding.{scaled, value, nought, Normal, IsKept, step, carry, Rounded}
-use Rattle.kept.specs.Rounding.Powers.{scaled-shift, scaled-at-most, scaled-less, exponents}
+use Rattle.kept.specs.Rounding.Powers.{scaled-shift, scaled-at-most, exponents}
 
 -- z is s × 2^e or more, and less than (s + 1) × 2^e; r is zero exactly where z is s × 2^e.
 pub record Between (s r : ℕ) (e : ℤ) (z : Fraction) : Type 0 where

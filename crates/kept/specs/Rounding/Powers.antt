@@ -4,15 +4,15 @@ use Prim.Native.Nat.{ℕ, zero, suc, _+_, _-_, _*_, _^_, _≤_, _<_}
 use mathlib.Core.Path.{_≡_, refl, sym, ap, _∙_}
 use mathlib.Core.Logic.{_⊎_, inl, inr}
 use mathlib.Core.Bool.{Bool, true, false, cond}
-use native.Mathlib.Nat.{mul-pos, mul-le-mul-right, mul-lt-mul-of-pos-right, lt-of-not-le}
+use native.Mathlib.Nat.{mul-pos, mul-le-mul-right, mul-lt-mul-of-pos-right}
 use native.Mathlib.Omega.{arith}
 use lib.Dec.{ltb}
 use lib.Pow.{pow-add}
-use lib.IntN.{ℤ, pos, negsuc, negℤ, subℕ, _+ℤ_, _-ℤ_, +ℤ-assoc, +ℤ-comm, +ℤ-idl, +ℤ-idr, +ℤ-invr, -ℤ-+ℤ-cancel}
+use lib.IntN.{ℤ, pos, negsuc, _+ℤ_, _-ℤ_, +ℤ-comm, +ℤ-idl, -ℤ-+ℤ-cancel}
 use lib.Ieee.{up, down}
 use lib.Ieee.Fits.{up-pos, down-pos}
 use borrow.Author.Tests.{ltb-true, ltb-false}
-use Rattle.model.specs.Fraction.{Fraction, Same, AtMost, Less, times, plus}
+use Rattle.model.specs.Fraction.{Same, AtMost, Less, times, plus}
 use Rattle.kept.specs.Rounding.{scaled}
 
 -- 2^(e + k) = 2^k × 2^e
@@ -58,11 +58,6 @@ module _ (e : ℤ) {s t : ℕ} where
   pub scaled-less : s < t → Less (scaled s e) (scaled t e)
   unfolding scaled
   scaled-less le = record { cross = omega (arith, mul-lt-mul-of-pos-right le (mul-pos (up-pos e) (down-pos e))) }
-
--- Two multiples of one power of two compare as their factors do.
-pub scaled-less-back : (e : ℤ) (s t : ℕ) → Less (scaled s e) (scaled t e) → s < t
-unfolding scaled
-scaled-less-back e s t less = lt-of-not-le (λ le. omega (arith, mul-le-mul-right (up e * down e) le))
 
 -- Of two exponents one is the other or some steps above it.
 pub exponents : (e f : ℤ) → (f ≡ e) ⊎ (((k : ℕ) × (f ≡ e +ℤ pos (suc k))) ⊎ ((k : ℕ) × (e ≡ f +ℤ pos (suc k))))

@@ -4,7 +4,7 @@ use Prim.Native.Nat.{ℕ, zero, suc, _+_, _*_, _^_, _≤_, _<_}
 use mathlib.Core.Path.{_≡_, refl, sym, ap, _∙_}
 use mathlib.Core.Logic.{_⊎_, inl, inr}
 use mathlib.Core.Bool.{Bool, true, false, cond}
-use native.Mathlib.Nat.{lt-of-lt-of-le, lt-of-le-of-lt, lt-of-not-le, mul-le-mul-left}
+use native.Mathlib.Nat.{lt-of-lt-of-le, lt-of-not-le, mul-le-mul-left}
 use native.Mathlib.Decide.{decLe}
 use native.Mathlib.Omega.{arith}
 use lib.Dec.{eqb, lit<, lit≤}
@@ -14,15 +14,15 @@ use lib.Signed.{_≤ℤ_, ltZ}
 use lib.Ieee.{up, down}
 use borrow.Author.Tests.{eqb-true, eqb-false}
 use Rattle.model.specs.Fraction.{Same, plus}
-use Rattle.model.specs.Fraction.Laws.{same-refl, same-sym, same-trans, at-most-of-same, less-at-most-trans, at-most-less-trans, at-most-trans, plus-same, plus-comm}
+use Rattle.model.specs.Fraction.Laws.{same-refl, same-sym, same-trans, at-most-of-same, less-at-most-trans}
+use Rattle.model.specs.Fraction.Laws.{at-most-less-trans, at-most-trans, plus-same, plus-comm}
 use Rattle.kept.specs.declared.Kept.{Kept}
 use Rattle.kept.specs.declared.Side.{Side}
 use Rattle.kept.specs.Rounding.{scaled, value, Normal, Reach, Operand, sum, round}
 use Rattle.kept.specs.Rounding.Exponents.{order-yes, order-no}
 use Rattle.kept.specs.Rounding.Powers.{scaled-shift, scaled-plus, scaled-less, scaled-at-most}
 use Rattle.kept.specs.Rounding.Leading.{Between}
-use Rattle.kept.specs.Rounding.Laws.{round-same, round-leading}
-use Rattle.kept.specs.Rounding.Arithmetic.{kept-normal}
+use Rattle.kept.specs.Rounding.Laws.{kept-normal, round-same, round-leading}
 
 -- ---- the sum of s × 2^e and t × 2^f, e being d above f
 

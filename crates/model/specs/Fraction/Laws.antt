@@ -2,9 +2,7 @@
 -- Assumes nothing.
 use Prim.Native.Nat.{ℕ, _+_, _*_, _≤_, _<_}
 use mathlib.Core.Path.{_≡_, ap}
-use mathlib.Core.Logic.{_⊎_, inl, inr}
-use native.Mathlib.Decide.{decLe}
-use native.Mathlib.Nat.{add-sub-of-le, lt-of-not-le, mul-le-mul, mul-le-mul-right, mul-lt-mul-of-pos-right}
+use native.Mathlib.Nat.{add-sub-of-le, mul-le-mul, mul-le-mul-right, mul-lt-mul-of-pos-right}
 use native.Mathlib.Nat.{eq-of-mul-eq-mul-right, le-of-mul-le-mul-right, lt-of-mul-lt-mul-right}
 use native.Mathlib.Omega.{arith}
 use Rattle.model.specs.Fraction.{Fraction, Same, AtMost, Less, plus, times, divided, whole, complement}
@@ -24,9 +22,6 @@ same-trans {x} {y} {z} e f = record {
       (omega (arith, ap (λ n. n * z .den) (e .cross), ap (λ n. n * x .den) (f .cross)));
 }
 
-pub at-most-refl : {x : Fraction} → AtMost x x
-at-most-refl = omega arith
-
 pub at-most-of-same : {x y : Fraction} → Same x y → AtMost x y
 at-most-of-same e = omega arith
 
@@ -38,12 +33,6 @@ at-most-antisymm l m = omega arith
 
 pub not-both : {x y : Fraction} → AtMost x y → Less y x → ⊥
 not-both l m = omega arith
-
-pub at-most-or-less : (x y : Fraction) → AtMost x y ⊎ Less y x
-at-most-or-less x y = elim (decLe (x .num * y .den) (y .num * x .den)) [
-  | yes l ↦ inl (record { cross = l })
-  | no l ↦ inr (record { cross = lt-of-not-le l })
-]
 
 pub at-most-trans : {x y z : Fraction} → AtMost x y → AtMost y z → AtMost x z
 at-most-trans {x} {y} {z} l m = record {
@@ -89,11 +78,6 @@ pub plus-same : {x y v w : Fraction} → Same x y → Same v w → Same (plus x 
 plus-same e f = at-most-antisymm
     (plus-mono (at-most-of-same e) (at-most-of-same f))
     (plus-mono (at-most-of-same (same-sym e)) (at-most-of-same (same-sym f)))
-
-pub times-same : {x y v w : Fraction} → Same x y → Same v w → Same (times x v) (times y w)
-times-same e f = at-most-antisymm
-    (times-mono (at-most-of-same e) (at-most-of-same f))
-    (times-mono (at-most-of-same (same-sym e)) (at-most-of-same (same-sym f)))
 
 pub divided-same : {x y : Fraction} (m : ℕ) (above : 0 < m) → Same x y → Same (divided x m above) (divided y m above)
 divided-same m above e = at-most-antisymm (divided-mono m above (at-most-of-same e)) (divided-mono m above (at-most-of-same (same-sym e)))

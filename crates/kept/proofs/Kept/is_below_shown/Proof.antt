@@ -5,7 +5,8 @@ use mir.Syntax.{w32}
 use mir.Val.{SFits}
 use borrow.Author.Needs.{needs}
 use borrow.Author.Tests.{eqb-false}
-use Rattle.kept.specs.Binary64.Laws.{nonzero-normal, zero-below, below-least, from-least}
+use Rattle.kept.specs.Rounding.Laws.{kept-normal}
+use Rattle.kept.specs.Binary64.Laws.{zero-below, below-least, from-least}
 use Rattle.kept.proofs.Kept.is_below_shown.Statement.{statement}
 use Rattle.kept.proofs.Kept.is_below_shown.Tie as tie
 
@@ -18,7 +19,7 @@ returns c = record {
 returns-2 : tie.Need-returns-2
 returns-2 c =
     let start = c .before .before .before .before in
-    let n = nonzero-normal (start .pre) (c .before .before .if1 .left) in
+    let n = kept-normal (start .pre) (c .before .before .if1 .left) in
     let fit : SFits w32 (start .args .self .exponent) = search needs in
     rw (toZ-ofZ fit) (record { below = below-least n _; shown = from-least n _ })
 

@@ -12,7 +12,8 @@ use Rattle.model.specs.Fraction.Laws.{same-sym}
 use Rattle.kept.specs.Rounding.{Reach, value, product}
 use Rattle.kept.specs.Rounding.Exponents.{reach-plus, reach-weaken, reach-fits, reach-back}
 use Rattle.kept.specs.Rounding.Powers.{scaled-times}
-use Rattle.kept.specs.Rounding.Arithmetic.{between-exact, product-word, kept-below}
+use Rattle.kept.specs.Rounding.Arithmetic.{between-exact, product-word}
+use Rattle.kept.specs.Rounding.Laws.{kept-below}
 use Rattle.kept.proofs.Kept.product.Statement.{statement}
 use Rattle.kept.proofs.Kept.product.Tie as tie
 
