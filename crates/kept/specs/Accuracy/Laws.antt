@@ -9,12 +9,12 @@ use native.Mathlib.Omega.{arith}
 use lib.Dec.{lit<, lit≤}
 use lib.IntN.{ℤ}
 use lib.Ieee.{up, down}
-use Rattle.model.specs.Fraction.{Fraction, Same, AtMost, integer, plus, times, divided}
+use Rattle.model.specs.Fraction.{Fraction, Same, AtMost, integer, over, plus, times, divided}
 use Rattle.model.specs.Fraction.Laws.{same-sym, at-most-of-same, at-most-trans, plus-mono, times-mono, divided-mono}
 use Rattle.kept.specs.declared.Kept.{Kept}
 use Rattle.kept.specs.declared.Side.{Side}
 use Rattle.kept.specs.declared.Side.the-variants.{Low, High}
-use Rattle.kept.specs.Rounding.{OnSide, Normal, scaled, value, round, product, sum, quotient}
+use Rattle.kept.specs.Rounding.{OnSide, Normal, scaled, value, round, product, sum, quotient, ofInteger, ofBasisPoints}
 use Rattle.kept.specs.Rounding.Leading.{Adjacent}
 use Rattle.kept.specs.Rounding.Laws.{round-is, round-nought, nought-same, round-adjacent}
 use Rattle.kept.specs.Accuracy.{precision, Le, Near, Bound}
@@ -127,6 +127,14 @@ round-on-side side z = round-is side z .on-side
 
 pub bound-round : (side : Side) (z : Fraction) → Bound side 1 (round side z) z
 bound-round side z = record { order = round-on-side side z; near = round-near side z }
+
+pub bound-integer : (side : Side) (n : ℕ) → Bound side 1 (ofInteger side n) (integer n)
+unfolding ofInteger
+bound-integer side n = bound-round side (integer n)
+
+pub bound-basis-points : (side : Side) (p : ℕ) → Bound side 1 (ofBasisPoints side p) (over p 1)
+unfolding ofBasisPoints
+bound-basis-points side p = bound-round side (over p 1)
 
 -- An operation that keeps the order, and takes relative errors of n and of m parts to k.
 record Operation (n m k : ℕ) (f : Fraction → Fraction → Fraction) : Type 0 where

@@ -13,12 +13,13 @@ use lib.IntN.{ℤ, pos, _+ℤ_}
 use lib.Ieee.{up, down, minus, size}
 use lib.Ieee.Fits.{up-pos, down-pos}
 use lib.Ieee.Digits.{minus-val, size-lt, size-reaches}
-use Rattle.model.specs.Fraction.{Fraction, Same, AtMost, certainty}
+use Rattle.model.specs.Fraction.{Fraction, Same, AtMost, certainty, plus, times, divided, integer, over}
 use Rattle.model.specs.Fraction.Laws.{same-sym, same-trans, at-most-trans, at-most-of-same, at-most-antisymm, less-at-most-trans, at-most-less-trans}
 use Rattle.kept.specs.declared.Kept.{Kept}
 use Rattle.kept.specs.declared.Side.{Side}
 use Rattle.kept.specs.declared.Side.the-variants.{Low, High}
 use Rattle.kept.specs.Rounding.{scaled, value, nought, unity, Normal, IsKept, OnSide, Rounded, step, carry, round}
+use Rattle.kept.specs.Rounding.{product, sum, quotient, ofInteger, ofBasisPoints}
 use Rattle.kept.specs.Rounding.Powers.{scaled-shift, exponents}
 use Rattle.kept.specs.Rounding.Leading.{Between, Adjacent, carry-zero, rounded-leading, adjacent-leading}
 
@@ -230,3 +231,26 @@ round-adjacent side z above =
     let normal = normal-leading z above in
     let between = between-cut z (a z above) (digits z above - 32) in
     rw (← round-leading side _ normal between) (adjacent-leading side _ normal between)
+
+-- ---- the steps of the arithmetic
+
+module _ (side : Side) where
+  pub product-is : (x y : Kept) → Rounded side (times (value x) (value y)) (product side x y)
+  unfolding product
+  product-is x y = round-is side (times (value x) (value y))
+
+  pub sum-is : (x y : Kept) → Rounded side (plus (value x) (value y)) (sum side x y)
+  unfolding sum
+  sum-is x y = round-is side (plus (value x) (value y))
+
+  pub quotient-is : (x : Kept) (m : ℕ) (above : 0 < m) → Rounded side (divided (value x) m above) (quotient side x m above)
+  unfolding quotient
+  quotient-is x m above = round-is side (divided (value x) m above)
+
+  pub integer-is : (n : ℕ) → Rounded side (integer n) (ofInteger side n)
+  unfolding ofInteger
+  integer-is n = round-is side (integer n)
+
+  pub basis-points-is : (p : ℕ) → Rounded side (over p 1) (ofBasisPoints side p)
+  unfolding ofBasisPoints
+  basis-points-is p = round-is side (over p 1)

@@ -1,9 +1,11 @@
 -- `Kept::from_basis_points` meets its contract.
 -- Assumes nothing.
-use mathlib.Core.Path.{_∙_}
+use mathlib.Core.Path.{_≡_, _∙_}
 use borrow.Author.Needs.{needs}
 use lib.Dec.{lit<}
-use Rattle.kept.specs.Rounding.{ofBasisPoints}
+use lib.IntN.{pos}
+use Rattle.model.specs.Fraction.{divided}
+use Rattle.kept.specs.Rounding.{scaled, round, ofBasisPoints}
 use Rattle.kept.specs.Rounding.Laws.{round-same}
 use Rattle.kept.specs.Rounding.Arithmetic.{basis-points-scaled}
 use Rattle.kept.proofs.Kept.from_basis_points.Statement.{statement}
@@ -14,7 +16,11 @@ ratio-requires c κs = search needs
 
 returns : tie.Need-returns
 unfolding ofBasisPoints
-returns c = c .ratio .ensures (lit< tt) ∙ round-same (c .before .args .side) (basis-points-scaled (c .before .args .p) (lit< tt))
+returns c =
+    let p = c .before .args .p in
+    let side = c .before .args .side in
+    let is : c .ratio .result ≡ round side (divided (scaled p (pos 0)) 10000 (lit< tt)) = c .ratio .ensures (lit< tt) in
+    is ∙ round-same side (basis-points-scaled p (lit< tt))
 
 pub from-basis-points-spec : {M : Type 1} → statement M
 from-basis-points-spec = tie.close (tie.spec ratio-requires returns)

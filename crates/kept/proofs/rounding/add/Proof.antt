@@ -59,7 +59,7 @@ cast-v-3 : tie.Need-cast-v-3
 cast-v-3 c = search needs
 
 add-v : tie.Need-add-v
-add-v c = record { fits = rw (whole (c .before .before)) (digits (c .before .before)) }
+add-v c = record { fits = omega (arith, whole (c .before .before), digits (c .before .before)) }
 
 lowered-requires : tie.Need-lowered-requires
 lowered-requires c κs =

@@ -1,5 +1,6 @@
 -- `carried` meets its contract.
 -- Assumes nothing.
+use mathlib.Core.Path.{refl}
 use borrow.Author.Needs.{needs}
 use mir.Syntax.{w32}
 use mir.Facts.{toZ-ofZ}
@@ -25,6 +26,7 @@ returns c =
       c .settled .ensures,
       toZ-ofZ (start .fits .exponent),
     )
+    refl
 
 pub carried-spec : {M : Type 1} → statement M
 carried-spec = tie.close (tie.spec shr-t4 cast-t5 settled-requires returns)

@@ -21,11 +21,11 @@ enum-told-2 c = search needs
 
 returns : tie.Need-returns
 unfolding step
-returns c = rw (c .enum-told .given .1)
+returns c = rw (c .enum-told .given .1) refl
 
 returns-2 : tie.Need-returns-2
 unfolding step
-returns-2 c = rw (c .before .enum-told2 .given .1, c .if1 .taken)
+returns-2 c = rw (c .before .enum-told2 .given .1, c .if1 .taken) refl
 
 returns-3 : tie.Need-returns-3
 unfolding step

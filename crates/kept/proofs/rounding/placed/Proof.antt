@@ -1,6 +1,7 @@
 -- `placed` meets its contract.
 -- Assumes nothing.
 use borrow.Author.Tests.{eq-eqb, ne-eqb}
+use mathlib.Core.Path.{refl}
 use lib.Dec.{lit<}
 use Rattle.kept.specs.Rounding.Exponents.{reach-back}
 use Rattle.kept.specs.Rounding.Sums.{lowest, placeOf}
@@ -9,7 +10,7 @@ use Rattle.kept.proofs.rounding.placed.Tie as tie
 
 returns : tie.Need-returns
 unfolding lowest placeOf
-returns c = rw (eq-eqb (c .before .args .x .significand) 0 (c .if1 .taken))
+returns c = rw (eq-eqb (c .before .args .x .significand) 0 (c .if1 .taken)) refl
 
 returns-2 : tie.Need-returns-2
 unfolding placeOf

@@ -2,7 +2,8 @@
 -- Assumes nothing.
 use mathlib.Core.Path.{_≡_}
 use borrow.Author.Needs.{needs}
-use native.Mathlib.Nat.{mod-lt, le-of-lt, lt-trans}
+use native.Mathlib.Nat.{mod-lt, le-of-lt}
+use native.Mathlib.Omega.{arith}
 use lib.Dec.{lit≤}
 use lib.IntN.{pos, _-ℤ_}
 use mir.Syntax.{w32}
@@ -32,7 +33,7 @@ rem-keep : tie.Need-rem-keep
 rem-keep c = search needs
 
 cast-keep : tie.Need-cast-keep
-cast-keep c = record { fits = lt-trans (mod-lt _ (c .before .pre .1)) (c .before .fits .m .fits) }
+cast-keep c = record { fits = omega (arith, mod-lt (c .shifted-up .result) (c .before .pre .1), c .before .fits .m .fits) }
 
 headroom-requires : tie.Need-headroom-requires
 headroom-requires c κs = search needs
