@@ -84,7 +84,8 @@ pub fn shifted_up(v: u64) -> u64
     v << headroom(v)
 }
 
-// v × 2^exponent rounded once, or a number between that and (v + 1) × 2^exponent where rest is not zero.
+// Rounds once the number that is v × 2^exponent where rest is zero, and lies between that and (v + 1) × 2^exponent where rest is
+// not. In the second case v has to have all 32 digits that stay.
 pub fn keep(v: u64, rest: u32, exponent: i32, side: Side) -> Kept
     requires { ⌜ Reach 2000000100 exponent ⌝ ∗ ⌜ (0 < rest → 2 ^ 31 ≤ v) ⌝ }
     ensures { λ r. ⌜ ((z : Fraction) → Between v rest exponent z → r ≡ round side z) ⌝ }
@@ -128,8 +129,8 @@ pub fn select(test: bool, x: Kept, y: Kept) -> Kept
     if test { x } else { y }
 }
 
-// The sum of two numbers, the first with the larger exponent. A second one that lies 32 digits or more below the first is added as if it lay
-// 32 digits below: it changes no leading digit, and only whether it is zero counts.
+// The sum of two numbers, the first with the larger exponent. A second one that lies 32 digits or more below the first is added
+// as if it lay 32 digits below: it changes no leading digit, and only whether it is zero counts.
 pub fn add(x: Kept, y: Kept, side: Side) -> Kept
     requires { ⌜ Addend x ⌝ ∗ ⌜ Addend y ⌝ ∗ ⌜ y .exponent ≤ℤ x .exponent ⌝ }
     ensures { λ r. ⌜ r ≡ round side (plus (value x) (value y)) ⌝ }

@@ -119,7 +119,7 @@ gap-few gap = elim (decLe 32 (gap .distance)) [
   | no near ↦ rw (gap .near (lt-of-not-le near)) (omega arith)
 ]
 
--- They fit a word.
+-- The digits of a sum fit a word.
 pub sum-word : {s t r : ℕ} → s < 2 ^ 32 → t < 2 ^ 32 → r ≤ 32 → s * 2 ^ r + t < 2 ^ 64
 sum-word {s} {r = r} small little few = omega (arith, mul-le-mul-left s (pow-mono {i = r} {j = 32} few))
 

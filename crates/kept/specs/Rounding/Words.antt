@@ -29,6 +29,7 @@ use Rattle.kept.specs.Rounding.Laws.{step-none, round-leading, round-nou
 unfoldable pub shiftOf : ℕ → ℕ
 shiftOf v = leadingZeros 64 v % 64
 
+-- What the shift makes of v.
 pub record Shifted (v : ℕ) : Type 0 where
   pub least : 0 < v → 2 ^ 63 ≤ v * 2 ^ shiftOf v
   pub below : v * 2 ^ shiftOf v < 2 ^ 64
@@ -39,7 +40,7 @@ shifted-zero : Shifted 0
 unfolding shiftOf
 shifted-zero = record {
   least = λ none. absurd (omega arith);
-  below = rw (zero-mul) (lit< tt);
+  below = rw zero-mul (lit< tt);
   few = mod-lt (leadingZeros 64 0) (lit< tt);
   half = λ large. absurd (omega arith);
 }
@@ -152,7 +153,7 @@ module _ {v rest : ℕ} {e : ℤ} {z : Fraction} (word : Shifted v) (between : B
   }
 
 module _ (side : Side) {v rest : ℕ} {e : ℤ} {z : Fraction} (large : 0 < rest → 2 ^ 31 ≤ v) (between : Between v rest e z) where
-  -- Nothing rounds to zero.
+  -- A word that is zero, with nothing below it.
   zero-word : v ≡ 0 → nought ≡ round side z
   unfolding scaled
   zero-word none = elim (eq-zero-or-pos rest) [
