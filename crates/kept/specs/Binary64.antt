@@ -42,10 +42,14 @@ pub record ShownExponent (e : ℤ) : Type 0 where
 unfoldable pub scaledBy : Float → ℕ → Float → Float
 scaledBy x digit power = cond (eqb digit 1) (Ieee.mul binary64 x power) x
 
--- r is x as an f64: the value of x rounded to binary64, by which nothing is lost. Its 64 bits are the sign 0, the exponent field e + 1054 and the
+-- The value of x rounded to binary64.
+unfoldable pub toBinary64 : Kept → Float
+toBinary64 x = Ieee.round binary64 false (value x .num) (value x .den)
+
+-- r is x as an f64. Nothing is lost by rounding the value of x, and the 64 bits are the sign 0, the exponent field e + 1054 and the
 -- fraction field (s − 2^31) × 2^21.
 pub record IsBinary64 (x : Kept) (r : Float) : Type 0 where
-  pub is : r ≡ Ieee.round binary64 false (value x .num) (value x .den)
+  pub is : r ≡ toBinary64 x
   pub exact : HasValue r false (value x .num) (value x .den)
   pub sign : toBits binary64 r / 2 ^ 63 ≡ 0
   pub exponent-field : pos (toBits binary64 r / 2 ^ 52 % 2 ^ 11) ≡ x .exponent +ℤ pos 1054

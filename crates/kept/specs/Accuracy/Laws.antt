@@ -110,7 +110,7 @@ le-adjacent normal e l k = le-transitive (le-of-at-most l) (le-transitive (le-ne
 -- The relative error of one rounding.
 round-near : (side : Side) (z : Fraction) → Near side 1 (value (round side z)) z
 round-near side z = elim (eq-zero-or-pos (z .num)) [
-  | inl zero ↦ exact side (rw (← round-nought side z zero) (nought-same z zero))
+  | inl zero ↦ exact side (rw (round-nought side z zero) (nought-same z zero))
   | inr above ↦ between side (round-adjacent side z above)
 ]
   where

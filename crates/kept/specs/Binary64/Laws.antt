@@ -23,7 +23,7 @@ use Rattle.kept.specs.declared.Kept.{Kept}
 use Rattle.kept.specs.Rounding.{Normal, IsKept, scaled, value}
 use Rattle.kept.specs.Rounding.Powers.{scaled-shift}
 use Rattle.kept.specs.Rounding.Laws.{normal-positive, kept-normal}
-use Rattle.kept.specs.Binary64.{leastShown, Shown, Doublings, ShownExponent, IsBinary64, scaledBy}
+use Rattle.kept.specs.Binary64.{leastShown, Shown, Doublings, ShownExponent, toBinary64, IsBinary64, scaledBy}
 
 -- A normal significand against powers of two.
 under-power : {s : ℕ} → Normal s → (a b : ℕ) → 32 + a ≤ b → s * 2 ^ a < 2 ^ b
@@ -163,21 +163,40 @@ bits-of {s} n j k (fin false m e) h v =
     let kept : w / 2 ^ j ≡ s * 2 ^ 21 = ap (λ z. z / 2 ^ j) (rw (h, pow-add 2 j 21) (omega arith)) ∙ shl-shr (s * 2 ^ 21) j in
     rw (whole, digits, dropped, kept, zero-add)
 
--- All digits are done.
-pub is-binary64 : {x : Kept} {n : ℕ} {r : Float} → Doublings (x .exponent) n → Doubled (x .significand) n 1 r → IsBinary64 x r
-unfolding scaled multiple
-is-binary64 {x} {n} {r} h d =
+-- The value of x as a multiple of the least value of binary64.
+shown-power : (s : ℕ) {e : ℤ} {n : ℕ} → Doublings e n → s * up e * 2 ^ 1074 ≡ s * 2 ^ (n + 243) * down e
+shown-power s {e} {n} h = whole-power s e 1074 (n + 243) (ap (λ z. z +ℤ pos 243) (h .is) ∙ +ℤ-assoc e (pos 831) (pos 243))
+
+binary64-multiple : (x : Kept) {n : ℕ} → Doublings (x .exponent) n → toBinary64 x ≡ multiple (x .significand) (n + 243)
+unfolding toBinary64 scaled multiple
+binary64-multiple x {n} h =
     let s = x .significand in
     let e = x .exponent in
-    let k = n + 243 in
-    let cross = whole-power s e 1074 k (ap (λ z. z +ℤ pos 243) (h .is) ∙ +ℤ-assoc e (pos 831) (pos 243)) in
-    let is : r ≡ multiple s k = d .is ∙ ap (multiple s) (omega arith) in
-    let rounded = is ∙ round-same binary64 false (s * 2 ^ k) (2 ^ 1074) (s * up e) (down e) (pow-pos 1074) (down-pos e) (sym cross) in
-    let bits = bits-of (d .normal) (n + 222) k r (omega arith) (rw is (multiple-exact (d .normal) k (omega arith))) in
+    round-same binary64 false (s * up e) (down e) (s * 2 ^ (n + 243)) (2 ^ 1074) (down-pos e) (pow-pos 1074) (shown-power s h)
+
+-- A number that is shown has its value as an f64.
+pub shown-binary64 : {x : Kept} → Shown x → IsBinary64 x (toBinary64 x)
+unfolding toBinary64 scaled
+shown-binary64 {x} shown =
+    let s = x .significand in
+    let e = x .exponent in
+    let n = shown-exponent shown .n in
+    let h = shown-exponent shown .doublings in
+    let normal = shown-normal (shown .kept) (shown .least) in
+    let value : HasValue (toBinary64 x) false (s * 2 ^ (n + 243)) (2 ^ 1074) =
+    rw (binary64-multiple x h) (multiple-exact normal (n + 243) (omega (arith, h .below))) in
+    let bits = bits-of normal (n + 222) (n + 243) (toBinary64 x) (omega arith) value in
     record {
-      is = rounded;
-      exact = rw rounded (nothing-lost (d .normal) k (s * up e) (down e) (omega arith) (down-pos e) cross);
+      is = refl;
+      exact = nothing-lost normal (n + 243) (s * up e) (down e) (omega (arith, h .below)) (down-pos e) (shown-power s h);
       sign = omega arith;
       exponent-field = ap pos (omega arith) ∙ ap (λ z. z +ℤ pos 223) (h .is) ∙ +ℤ-assoc e (pos 831) (pos 223);
       fraction-field = omega arith;
     }
+
+pub is-binary64 : {x : Kept} {r : Float} → Shown x → r ≡ toBinary64 x → IsBinary64 x r
+is-binary64 shown is = rw is (shown-binary64 shown)
+
+-- All digits are done.
+pub all-doubled : {x : Kept} {n : ℕ} {r : Float} → Doublings (x .exponent) n → Doubled (x .significand) n 1 r → r ≡ toBinary64 x
+all-doubled {x} h d = d .is ∙ ap (multiple (x .significand)) (omega arith) ∙ sym (binary64-multiple x h)

@@ -191,14 +191,14 @@ unfolding step
 step-none Low = refl
 step-none High = refl
 
-round-zero : (side : Side) (z : Fraction) → z .num ≡ 0 → round side z ≡ nought
+pub round-nought : (side : Side) (z : Fraction) → z .num ≡ 0 → round side z ≡ nought
 unfolding round
-round-zero side z none = simp (none, zero-mul, zero-div, zero-mod, step-none) (carry-zero _)
+round-nought side z none = simp (none, zero-mul, zero-div, zero-mod, step-none) (carry-zero _)
 
 -- The greatest kept number not above z, or the least not below it.
 pub round-is : (side : Side) (z : Fraction) → Rounded side z (round side z)
 round-is side z = elim (eq-zero-or-pos (z .num)) [
-  | inl none ↦ rw (round-zero side z none) (rounded-exact side nought-kept (nought-same z none))
+  | inl none ↦ rw (round-nought side z none) (rounded-exact side nought-kept (nought-same z none))
   | inr above ↦ rounded-positive side z above
 ]
 
@@ -216,9 +216,6 @@ module _ (side : Side) where
   -- The rounding of a number whose leading digits are s, r being what is left below them.
   pub round-leading : (r : ℕ) {s : ℕ} {e : ℤ} {z : Fraction} → Normal s → Between s r e z → carry (s + step side r) e ≡ round side z
   round-leading r normal between = round-only (rounded-leading side r normal between)
-
-  pub round-nought : (z : Fraction) → z .num ≡ 0 → nought ≡ round side z
-  round-nought z is = sym (round-zero side z is)
 
 -- Rounding keeps order.
 pub round-mono : (side : Side) {z w : Fraction} → AtMost z w → AtMost (value (round side z)) (value (round side w))

@@ -28,7 +28,7 @@ pub record Between (s r : ℕ) (e : ℤ) (z : Fraction) : Type 0 where
   pub none : r ≡ 0 → AtMost z (scaled s e)
   pub some : 0 < r → Less (scaled s e) z
 
-pub nought-least : (z : Fraction) → AtMost (value nought) z
+nought-least : (z : Fraction) → AtMost (value nought) z
 unfolding nought scaled
 nought-least z = record { cross = omega arith }
 
@@ -46,7 +46,7 @@ module _ {s : ℕ} (normal : Normal s) (e : ℤ) where
         inl (at-most-trans (scaled-at-most f double) (at-most-of-same (same-sym (scaled-shift s f (suc k) is))))
   ]
 
-  pub neighbours : (y : Kept) → IsKept y → AtMost (value y) (scaled s e) ⊎ AtMost (scaled (suc s) e) (value y)
+  neighbours : (y : Kept) → IsKept y → AtMost (value y) (scaled s e) ⊎ AtMost (scaled (suc s) e) (value y)
   neighbours y kept = elim (kept .form) [ inl is ↦ rw is (inl (nought-least (scaled s e))) | inr other ↦ place other (y .exponent) ]
 
 -- ---- the carry
@@ -74,14 +74,14 @@ pub carry-zero : (e : ℤ) → carry 0 e ≡ nought
 unfolding carry
 carry-zero e = refl
 
-pub carry-value : (s : ℕ) (e : ℤ) → Same (value (carry s e)) (scaled s e)
+carry-value : (s : ℕ) (e : ℤ) → Same (value (carry s e)) (scaled s e)
 carry-value s e =
     by-carry (λ x. Same (value x) (scaled s e)) s e
     (λ is. rw is (nought-at e))
     (λ is. rw is (scaled-shift (2 ^ 31) e 1 refl))
     (λ _ _. same-refl)
 
-pub carry-kept : (s : ℕ) (e : ℤ) → 2 ^ 31 ≤ s → s ≤ 2 ^ 32 → IsKept (carry s e)
+carry-kept : (s : ℕ) (e : ℤ) → 2 ^ 31 ≤ s → s ≤ 2 ^ 32 → IsKept (carry s e)
 carry-kept s e least most =
     by-carry IsKept s e
     (λ is. record { form = inl refl })

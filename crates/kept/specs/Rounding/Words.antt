@@ -154,7 +154,7 @@ module _ {v rest : ℕ} {e : ℤ} {z : Fraction} (word : Shifted v) (between : B
 
 module _ (side : Side) {v rest : ℕ} {e : ℤ} {z : Fraction} (large : 0 < rest → 2 ^ 31 ≤ v) (between : Between v rest e z) where
   -- A word that is zero, with nothing below it.
-  zero-word : v ≡ 0 → nought ≡ round side z
+  zero-word : v ≡ 0 → round side z ≡ nought
   unfolding scaled
   zero-word none = elim (eq-zero-or-pos rest) [
     | inl exact ↦
@@ -173,7 +173,7 @@ pub round-word : (side : Side) {v rest : ℕ} {e : ℤ} {z : Fraction} → Shift
 round-word side {v} {rest} {e} {z} word large between = elim (eq-zero-or-pos v) [
   | inl none ↦
       rw (none, zero-rest side large between none, zero-mul)
-      (rw (step-none side) (carry-zero (e +ℤ pos 32 -ℤ pos (shiftOf 0)))) ∙ zero-word side large between none
+      (rw (step-none side) (carry-zero (e +ℤ pos 32 -ℤ pos (shiftOf 0)))) ∙ sym (zero-word side large between none)
   | inr above ↦ round-leading side _ (normal-upper word between above) (between-upper word between (λ more. word .half (large more)))
 ]
 

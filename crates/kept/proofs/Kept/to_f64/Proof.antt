@@ -6,7 +6,7 @@ use mir.Facts.{toZ-ofZ}
 use mir.Syntax.{w32}
 use mir.Val.{SFits}
 use lib.Ieee.{ofBits}
-use Rattle.kept.specs.Binary64.Laws.{shown-normal, shown-exponent, undoubled, doubled, is-binary64}
+use Rattle.kept.specs.Binary64.Laws.{shown-normal, shown-exponent, undoubled, doubled, all-doubled, is-binary64}
 use Rattle.kept.proofs.Kept.to_f64.Statement.{statement}
 use Rattle.kept.proofs.Kept.to_f64.Tie as tie
 
@@ -45,7 +45,7 @@ returns c =
     let d7 = doubled 8 d6 (c7 .scaled-by7 .ensures) in
     let d8 = doubled 4 d7 (c8 .scaled-by8 .ensures) in
     let d9 = doubled 2 d8 (c9 .scaled-by9 .ensures) in
-    is-binary64 n (doubled 1 d9 (rw (div-one _) (c .scaled-by10 .ensures)))
+    is-binary64 shown (all-doubled n (doubled 1 d9 (rw (div-one _) (c .scaled-by10 .ensures))))
 
 pub to-f64-spec : {M : Type 1} → statement M
 to-f64-spec =
