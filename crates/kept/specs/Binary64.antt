@@ -2,8 +2,8 @@
 -- Assumes nothing.
 use Prim.Native.Nat.{ℕ, _-_, _*_, _/_, _%_, _^_, _<_}
 use mathlib.Core.Path.{_≡_}
-use mathlib.Core.Bool.{Bool, true, false, cond}
-use lib.Dec.{eqb}
+use mathlib.Core.Bool.{Bool, false, cond}
+use lib.Dec.{eqb, ltb}
 use lib.IntN.{ℤ, pos, negsuc, _+ℤ_}
 use lib.Ieee as Ieee
 use lib.Ieee.{Float, binary64, toBits}
@@ -17,10 +17,9 @@ pub mod Laws
 unfoldable pub leastShown : Fraction
 leastShown = scaled 1 (negsuc 799)
 
--- r answers whether x is below the least value that is shown.
-pub record BelowShown (x : Kept) (r : Bool) : Type 0 where
-  pub below : r ≡ true → Less (value x) leastShown
-  pub shown : r ≡ false → AtMost leastShown (value x)
+-- Whether x is below the least value that is shown, by cross products.
+unfoldable pub belowShown : Kept → Bool
+belowShown x = ltb (value x .num * leastShown .den) (leastShown .num * value x .den)
 
 -- A kept number that can be shown: from 2^−800 to below 2^224.
 pub record Shown (x : Kept) : Type 0 where

@@ -2,7 +2,7 @@
 use crate::Kept;
 ghost use mathlib.Core.Path.{_≡_};
 ghost use Rattle.kept.specs.Rounding.{IsKept};
-ghost use Rattle.kept.specs.Binary64.{BelowShown, Shown, ShownExponent, Doublings, IsBinary64, scaledBy};
+ghost use Rattle.kept.specs.Binary64.{belowShown, Shown, ShownExponent, Doublings, IsBinary64, scaledBy};
 
 // How many doublings lead from 2^−831 to 2^exponent.
 fn doublings(exponent: i32) -> u32
@@ -23,7 +23,7 @@ impl Kept {
     // Whether the number is below 2^−800, the least that is shown as an f64.
     pub fn is_below_shown(self) -> bool
         requires { ⌜ IsKept self ⌝ }
-        ensures { λ r. ⌜ BelowShown self r ⌝ }
+        ensures { λ r. ⌜ r ≡ belowShown self ⌝ }
     {
         self.significand == 0 || self.exponent < -831
     }

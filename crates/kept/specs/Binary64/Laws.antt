@@ -2,7 +2,7 @@
 -- Assumes nothing.
 use Prim.Native.Nat.{ℕ, zero, suc, _+_, _-_, _*_, _/_, _%_, _^_, _≤_, _<_}
 use mathlib.Core.Path.{_≡_, refl, sym, ap, _∙_}
-use mathlib.Core.Bool.{true, false, true≢false}
+use mathlib.Core.Bool.{Bool, true, false, true≢false}
 use native.Mathlib.Nat.{le-trans, le-antisymm, lt-of-lt-of-le, lt-of-not-le, not-le-of-lt, zero-add, zero-mul, mul-one, one-mul}
 use native.Mathlib.Nat.{mul-pos, mul-le-mul-right, mul-div-cancel, mul-div-le, div-div-eq-div-mul, div-add-mod'}
 use native.Mathlib.Omega.{arith}
@@ -23,7 +23,7 @@ use Rattle.kept.specs.declared.Kept.{Kept}
 use Rattle.kept.specs.Rounding.{Normal, IsKept, scaled, value}
 use Rattle.kept.specs.Rounding.Powers.{scaled-shift}
 use Rattle.kept.specs.Rounding.Laws.{normal-positive, kept-normal}
-use Rattle.kept.specs.Binary64.{leastShown, Shown, Doublings, ShownExponent, toBinary64, IsBinary64, scaledBy}
+use Rattle.kept.specs.Binary64.{leastShown, belowShown, Shown, Doublings, ShownExponent, toBinary64, IsBinary64, scaledBy}
 
 -- A normal significand against powers of two.
 under-power : {s : ℕ} → Normal s → (a b : ℕ) → 32 + a ≤ b → s * 2 ^ a < 2 ^ b
@@ -32,22 +32,50 @@ under-power n a b l = lt-of-lt-of-le (shl-lt 32 a (n .below)) (pow-mono l)
 over-power : {s : ℕ} → Normal s → (a b : ℕ) → b ≤ 31 + a → 2 ^ b ≤ s * 2 ^ a
 over-power n a b l = le-trans (pow-mono l) (rw (pow-add 2 31 a) (mul-le-mul-right (2 ^ a) (n .least)))
 
--- Below 2^−800 are zero and the exponents below −831.
-pub zero-below : (e : ℤ) → Less (scaled 0 e) leastShown
+-- ---- the least value that is shown
+
+pub below-shown-yes : (x : Kept) → belowShown x ≡ true → Less (value x) leastShown
+unfolding belowShown
+below-shown-yes x test = record { cross = ltb-true _ _ test }
+
+pub below-shown-no : (x : Kept) → belowShown x ≡ false → AtMost leastShown (value x)
+unfolding belowShown
+below-shown-no x test = record { cross = ltb-false _ _ test }
+
+is-below : (x : Kept) → Less (value x) leastShown → true ≡ belowShown x
+unfolding belowShown
+is-below x less = sym (lt-ltb _ _ (less .cross))
+
+is-shown : (x : Kept) → AtMost leastShown (value x) → false ≡ belowShown x
+unfolding belowShown
+is-shown x least = sym (le-ltb _ _ (least .cross))
+
+-- Below it are zero and the exponents below −831.
+zero-below : (e : ℤ) → Less (scaled 0 e) leastShown
 unfolding scaled leastShown
 zero-below e = record { cross = rw (zero-mul, one-mul (down e)) (down-pos e) }
 
-pub below-least : {s : ℕ} → Normal s → (e : ℤ) → ltZ e (negsuc 830) ≡ true → Less (scaled s e) leastShown
+below-least : {s : ℕ} → Normal s → (e : ℤ) → ltZ e (negsuc 830) ≡ true → Less (scaled s e) leastShown
 unfolding scaled leastShown
 below-least n (pos k) t = absurd (true≢false (sym t))
 below-least {s} n (negsuc k) t =
     record { cross = rw (mul-one s, one-mul (2 ^ suc k)) (under-power n 800 (suc k) (omega (arith, ltb-true 830 k t))) }
 
-pub from-least : {s : ℕ} → Normal s → (e : ℤ) → ltZ e (negsuc 830) ≡ false → AtMost leastShown (scaled s e)
+from-least : {s : ℕ} → Normal s → (e : ℤ) → ltZ e (negsuc 830) ≡ false → AtMost leastShown (scaled s e)
 unfolding scaled leastShown
 from-least n (pos k) t = record { cross = mul-pos (mul-pos (normal-positive n) (pow-pos k)) (pow-pos 800) }
 from-least {s} n (negsuc k) t =
     record { cross = rw (mul-one s, one-mul (2 ^ suc k)) (over-power n 800 (suc k) (omega (arith, ltb-false 830 k t))) }
+
+pub below-zero : (x : Kept) → x .significand ≡ 0 → true ≡ belowShown x
+below-zero x none = is-below x (rw none (zero-below (x .exponent)))
+
+pub below-exponent : (x : Kept) → Normal (x .significand) → ltZ (x .exponent) (negsuc 830) ≡ belowShown x
+below-exponent x n = by-test (ltZ (x .exponent) (negsuc 830)) refl
+  where
+    by-test : (t : Bool) → ltZ (x .exponent) (negsuc 830) ≡ t → t ≡ belowShown x
+    by-test true test = is-below x (below-least n (x .exponent) test)
+    by-test false test = is-shown x (from-least n (x .exponent) test)
 
 -- So what is shown is not zero, and its exponent is from −831 to 192.
 pub shown-normal : {x : Kept} → IsKept x → AtMost leastShown (value x) → Normal (x .significand)

@@ -3,7 +3,7 @@
 use Prim.Native.Nat.{ℕ, suc, _+_, _*_, _≤_, _<_, _^_}
 use native.Mathlib.Nat.{lt-of-lt-of-le, mul-one, mul-le-mul-left}
 use native.Mathlib.Omega.{arith}
-use mathlib.Core.Path.{_≡_}
+use mathlib.Core.Path.{_≡_, sym, _∙_}
 use mathlib.Core.Bool.{false, not}
 use borrow.Author.Needs.{needs}
 use borrow.Author.Tests.{ltb-false}
@@ -18,6 +18,7 @@ use mir.Val.{Fits, SFits}
 use Rattle.model.specs.Fraction.{Less}
 use Rattle.kept.specs.declared.Kept.{Kept}
 use Rattle.kept.specs.Binary64.{IsBinary64}
+use Rattle.kept.specs.Binary64.Laws.{below-shown-no}
 use Rattle.kept.specs.Rounding.{scaled}
 use Rattle.kept_vectors.proofs.bits_of.Statement.{statement}
 use Rattle.kept_vectors.proofs.bits_of.Tie as tie
@@ -58,7 +59,7 @@ to-f64-requires c κs =
     let fits : SFits w32 (x .exponent) = search needs in
     record {
       kept = start .pre .kept;
-      least = asked .is-below-shown .ensures .shown (c .before .before .before .if1 .left);
+      least = below-shown-no x (sym (asked .is-below-shown .ensures) ∙ c .before .before .before .if1 .left);
       below = below (small .fits) (x .exponent) (rw (toZ-ofZ fits) at (c .if2 .left));
     }
 
