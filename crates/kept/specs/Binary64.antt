@@ -27,6 +27,21 @@ pub record Shown (x : Kept) : Type 0 where
   pub least : AtMost leastShown (value x)
   pub below : Less (value x) (scaled 1 (pos 224))
 
+-- The value of x rounded to binary64.
+unfoldable pub toBinary64 : Kept → Float
+toBinary64 x = Ieee.round binary64 false (value x .num) (value x .den)
+
+-- r is x as an f64. Nothing is lost by rounding the value of x, and the 64 bits are the sign 0, the exponent field e + 1054 and the
+-- fraction field (s − 2^31) × 2^21.
+pub record IsBinary64 (x : Kept) (r : Float) : Type 0 where
+  pub is : r ≡ toBinary64 x
+  pub exact : HasValue r false (value x .num) (value x .den)
+  pub sign : toBits binary64 r / 2 ^ 63 ≡ 0
+  pub exponent-field : pos (toBits binary64 r / 2 ^ 52 % 2 ^ 11) ≡ x .exponent +ℤ pos 1054
+  pub fraction-field : toBits binary64 r % 2 ^ 52 ≡ (x .significand - 2 ^ 31) * 2 ^ 21
+
+-- ---- for the functions that `to_f64` is made of
+
 -- 2^e is 2^−831 doubled n times, with n below 1024.
 pub record Doublings (e : ℤ) (n : ℕ) : Type 0 where
   pub is : pos n ≡ e +ℤ pos 831
@@ -40,16 +55,3 @@ pub record ShownExponent (e : ℤ) : Type 0 where
 -- x × power where the binary digit is one, x where it is zero.
 unfoldable pub scaledBy : Float → ℕ → Float → Float
 scaledBy x digit power = cond (eqb digit 1) (Ieee.mul binary64 x power) x
-
--- The value of x rounded to binary64.
-unfoldable pub toBinary64 : Kept → Float
-toBinary64 x = Ieee.round binary64 false (value x .num) (value x .den)
-
--- r is x as an f64. Nothing is lost by rounding the value of x, and the 64 bits are the sign 0, the exponent field e + 1054 and the
--- fraction field (s − 2^31) × 2^21.
-pub record IsBinary64 (x : Kept) (r : Float) : Type 0 where
-  pub is : r ≡ toBinary64 x
-  pub exact : HasValue r false (value x .num) (value x .den)
-  pub sign : toBits binary64 r / 2 ^ 63 ≡ 0
-  pub exponent-field : pos (toBits binary64 r / 2 ^ 52 % 2 ^ 11) ≡ x .exponent +ℤ pos 1054
-  pub fraction-field : toBits binary64 r % 2 ^ 52 ≡ (x .significand - 2 ^ 31) * 2 ^ 21

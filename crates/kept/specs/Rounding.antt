@@ -87,14 +87,14 @@ pub record Rounded (side : Side) (z : Fraction) (x : Kept) : Type 0 where
   pub best : (y : Kept) → IsKept y → OnSide side (value y) z → OnSide side (value y) (value x)
 
 -- Each step of the arithmetic is exact, then rounded once.
-unfoldable pub product : Side → Kept → Kept → Kept
-product side x y = round side (times (value x) (value y))
+unfoldable pub roundedProduct : Side → Kept → Kept → Kept
+roundedProduct side x y = round side (times (value x) (value y))
 
-unfoldable pub sum : Side → Kept → Kept → Kept
-sum side x y = round side (plus (value x) (value y))
+unfoldable pub roundedSum : Side → Kept → Kept → Kept
+roundedSum side x y = round side (plus (value x) (value y))
 
-unfoldable pub quotient : Side → Kept → (m : ℕ) → 0 < m → Kept
-quotient side x m above = round side (divided (value x) m above)
+unfoldable pub roundedQuotient : Side → Kept → (m : ℕ) → 0 < m → Kept
+roundedQuotient side x m above = round side (divided (value x) m above)
 
 unfoldable pub ofInteger : Side → ℕ → Kept
 ofInteger side n = round side (integer n)

@@ -2,7 +2,7 @@
 // serves both.
 ghost use mathlib.Core.Path.{_≡_};
 ghost use Prim.Native.Nat.{_<_};
-ghost use Rattle.kept.specs.Rounding.{Operand, nought, unity, product, sum, quotient, ofInteger, ofBasisPoints};
+ghost use Rattle.kept.specs.Rounding.{Operand, nought, unity, roundedProduct, roundedSum, roundedQuotient, ofInteger, ofBasisPoints};
 
 mod binary64;
 mod rounding;
@@ -63,7 +63,7 @@ impl Kept {
     // self × other
     pub fn product(self, other: Kept, side: Side) -> Kept
         requires { ⌜ Operand self ⌝ ∗ ⌜ Operand other ⌝ }
-        ensures { λ r. ⌜ r ≡ product side self other ⌝ }
+        ensures { λ r. ⌜ r ≡ roundedProduct side self other ⌝ }
     {
         let v = self.significand as u64 * other.significand as u64;
         keep(v, 0, self.exponent + other.exponent, side)
@@ -72,7 +72,7 @@ impl Kept {
     // self + other
     pub fn sum(self, other: Kept, side: Side) -> Kept
         requires { ⌜ Operand self ⌝ ∗ ⌜ Operand other ⌝ }
-        ensures { λ r. ⌜ r ≡ sum side self other ⌝ }
+        ensures { λ r. ⌜ r ≡ roundedSum side self other ⌝ }
     {
         let x = placed(self);
         let y = placed(other);
@@ -83,7 +83,7 @@ impl Kept {
     // self / divisor
     pub fn quotient(self, divisor: u32, side: Side) -> Kept
         requires { ⌜ Operand self ⌝ ∗ ⌜ 0 < divisor ⌝ }
-        ensures { λ r. ⌜ ((above : 0 < divisor) → r ≡ quotient side self divisor above) ⌝ }
+        ensures { λ r. ⌜ ((above : 0 < divisor) → r ≡ roundedQuotient side self divisor above) ⌝ }
     {
         ratio(self.significand as u64, divisor, self.exponent, side)
     }

@@ -2,7 +2,7 @@
 ghost use mathlib.Core.Path.{_≡_};
 ghost use mathlib.Core.Bool.{cond};
 ghost use Prim.Native.Nat.{_*_, _≤_, _<_, _^_};
-ghost use lib.IntN.{pos, _+ℤ_, _-ℤ_};
+ghost use lib.IntN.{pos, _-ℤ_};
 ghost use lib.Signed.{_≤ℤ_};
 ghost use Rattle.model.specs.Fraction.{Fraction, plus, divided};
 ghost use Rattle.kept.specs.Rounding.{Reach, Operand, scaled, value, step, carry, round};
@@ -22,17 +22,9 @@ pub fn one_more(side: Side, dropped: u64) -> u64
     }
 }
 
-// The exponent of the upper 32 digits of a number that was shifted up.
-pub fn raised(exponent: i32, shift: u32) -> i32
-    requires { ⌜ Reach 2000000100 exponent ⌝ ∗ ⌜ shift ≤ 64 ⌝ }
-    ensures { λ r. ⌜ r ≡ exponent +ℤ pos 32 -ℤ pos shift ⌝ }
-{
-    exponent + 32 - shift as i32
-}
-
 // The exponent of a number that was shifted up.
 pub fn lowered(exponent: i32, shift: u32) -> i32
-    requires { ⌜ Reach 1000000000 exponent ⌝ ∗ ⌜ shift ≤ 64 ⌝ }
+    requires { ⌜ Reach 2000000132 exponent ⌝ ∗ ⌜ shift ≤ 64 ⌝ }
     ensures { λ r. ⌜ r ≡ exponent -ℤ pos shift ⌝ }
 {
     exponent - shift as i32
@@ -94,7 +86,7 @@ pub fn keep(v: u64, rest: u32, exponent: i32, side: Side) -> Kept
     let dropped = w % 0x1_0000_0000 + rest as u64;
     carried(
         (w >> 32) + one_more(side, dropped),
-        raised(exponent, headroom(v)),
+        lowered(exponent + 32, headroom(v)),
     )
 }
 

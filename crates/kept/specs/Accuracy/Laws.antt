@@ -14,9 +14,9 @@ use Rattle.model.specs.Fraction.Laws.{same-sym, at-most-of-same, at-most-trans,
 use Rattle.kept.specs.declared.Kept.{Kept}
 use Rattle.kept.specs.declared.Side.{Side}
 use Rattle.kept.specs.declared.Side.the-variants.{Low, High}
-use Rattle.kept.specs.Rounding.{OnSide, Normal, scaled, value, round, product, sum, quotient, ofInteger, ofBasisPoints}
-use Rattle.kept.specs.Rounding.Leading.{Adjacent}
-use Rattle.kept.specs.Rounding.Laws.{round-is, round-nought, nought-same, round-adjacent}
+use Rattle.kept.specs.Rounding.{OnSide, Normal, scaled, value, round, roundedProduct, roundedSum, roundedQuotient, ofInteger, ofBasisPoints}
+use Rattle.kept.specs.Rounding.Leading.{Adjacent, nought-same}
+use Rattle.kept.specs.Rounding.Laws.{round-rounded, round-nought, round-adjacent}
 use Rattle.kept.specs.Accuracy.{precision, Le, Near, Bound}
 
 precision-positive : 0 < precision
@@ -123,7 +123,7 @@ round-near side z = elim (eq-zero-or-pos (z .num)) [
     between High a = le-adjacent (a .normal) (a .e) (a .x-to) (a .z-from)
 
 round-on-side : (side : Side) (z : Fraction) → OnSide side (value (round side z)) z
-round-on-side side z = round-is side z .on-side
+round-on-side side z = round-rounded side z .on-side
 
 pub bound-round : (side : Side) (z : Fraction) → Bound side 1 (round side z) z
 bound-round side z = record { order = round-on-side side z; near = round-near side z }
@@ -156,19 +156,19 @@ bound-operation {side = High} law b c = record {
 
 pub bound-product :
     {side : Side} {n m : ℕ} {x y : Kept} {v w : Fraction}
-    → Bound side n x v → Bound side m y w → Bound side (n + m + 1) (product side x y) (times v w)
-unfolding product
+    → Bound side n x v → Bound side m y w → Bound side (n + m + 1) (roundedProduct side x y) (times v w)
+unfolding roundedProduct
 bound-product = bound-operation (record { order = times-mono; near = le-times })
 
 pub bound-sum :
-    {side : Side} {n : ℕ} {x y : Kept} {v w : Fraction} → Bound side n x v → Bound side n y w → Bound side (n + 1) (sum side x y) (plus v w)
-unfolding sum
+    {side : Side} {n : ℕ} {x y : Kept} {v w : Fraction} → Bound side n x v → Bound side n y w → Bound side (n + 1) (roundedSum side x y) (plus v w)
+unfolding roundedSum
 bound-sum = bound-operation (record { order = plus-mono; near = le-plus })
 
 pub bound-quotient :
     {side : Side} {n : ℕ} {x : Kept} {v : Fraction} (m : ℕ) (above : 0 < m)
-    → Bound side n x v → Bound side (n + 1) (quotient side x m above) (divided v m above)
-unfolding quotient
+    → Bound side n x v → Bound side (n + 1) (roundedQuotient side x m above) (divided v m above)
+unfolding roundedQuotient
 bound-quotient m above b =
     let law : Operation _ _ _ (λ x y. divided x m above) = record { order = λ l k. divided-mono m above l; near = λ l k. le-divided m above l } in
     bound-operation law b b

@@ -6,7 +6,7 @@ use mathlib.Core.Bool.{Bool, true, false, cond}
 use native.Mathlib.Nat.{le-of-lt}
 use native.Mathlib.Omega.{arith}
 use lib.Dec.{T, ltb, leb→le, le→leb, ltb→lt}
-use lib.Signed.{_≤ℤ_, ltZ, leZ, ltZ-no, nonNeg}
+use lib.Signed.{mag, _≤ℤ_, ltZ, leZ, ltZ-no, nonNeg}
 use lib.IntN.{ℤ, pos, negsuc, negℤ, natAbs, subℕ, _+ℤ_, _-ℤ_}
 use borrow.Author.Tests.{ltb-true, ltb-false, le-ltb}
 use mir.Syntax.{w32}
@@ -51,6 +51,10 @@ reach-fits {e = negsuc n} less r = record { sfits = omega arith }
 -- Within an i32's reach an exponent is what its bits stand for.
 pub reach-back : {n : ℕ} {e : ℤ} → n < 2 ^ 31 → Reach n e → toZ w32 (ofZ w32 e) ≡ e
 reach-back less r = toZ-ofZ (reach-fits less r)
+
+-- So is the result of a call.
+pub result-back : (e : ℤ) → mag e < 2 ^ 31 → toZ w32 (ofZ w32 e) ≡ e
+result-back e fits = toZ-ofZ (record { sfits = fits })
 
 -- ---- two exponents in order
 

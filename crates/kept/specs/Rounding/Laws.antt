@@ -4,7 +4,7 @@ use Prim.Native.Nat.{ℕ, suc, _+_, _-_, _*_, _/_, _%_, _^_, _≤_, _<_}
 use mathlib.Core.Path.{_≡_, refl, sym, ap, _∙_}
 use mathlib.Core.Logic.{_⊎_, inl, inr}
 use native.Mathlib.Nat.{eq-zero-or-pos, zero-mul, zero-div, zero-mod, mul-le-mul-left, mul-le-mul-right, mul-pos}
-use native.Mathlib.Nat.{pow-succ', le-div-iff-mul-le, div-lt-iff-lt-mul, div-add-mod', mod-lt, lt-of-not-le}
+use native.Mathlib.Nat.{pow-succ', le-div-iff-mul-le, div-lt-iff-lt-mul, lt-of-not-le}
 use native.Mathlib.Nat.{lt-of-lt-of-le, not-le-of-lt, eq-of-mul-eq-mul-right}
 use native.Mathlib.Omega.{arith}
 use lib.Dec.{lit<, lit≤}
@@ -14,14 +14,14 @@ use lib.Ieee.{up, down, minus, size}
 use lib.Ieee.Fits.{up-pos, down-pos}
 use lib.Ieee.Digits.{minus-val, size-lt, size-reaches}
 use Rattle.model.specs.Fraction.{Fraction, Same, AtMost, certainty, plus, times, divided, integer, over}
-use Rattle.model.specs.Fraction.Laws.{same-sym, same-trans, at-most-trans, at-most-of-same, at-most-antisymm, less-at-most-trans, at-most-less-trans}
+use Rattle.model.specs.Fraction.Laws.{same-sym, same-trans, at-most-trans, at-most-of-same, at-most-antisymm}
 use Rattle.kept.specs.declared.Kept.{Kept}
 use Rattle.kept.specs.declared.Side.{Side}
 use Rattle.kept.specs.declared.Side.the-variants.{Low, High}
 use Rattle.kept.specs.Rounding.{scaled, value, nought, unity, Normal, IsKept, OnSide, Rounded, step, carry, round}
-use Rattle.kept.specs.Rounding.{product, sum, quotient, ofInteger, ofBasisPoints}
+use Rattle.kept.specs.Rounding.{roundedProduct, roundedSum, roundedQuotient, ofInteger, ofBasisPoints}
 use Rattle.kept.specs.Rounding.Powers.{scaled-shift, exponents}
-use Rattle.kept.specs.Rounding.Leading.{Between, Adjacent, carry-zero, rounded-leading, adjacent-leading}
+use Rattle.kept.specs.Rounding.Leading.{Between, Adjacent, between-same, between-quotient, nought-same, carry-zero, rounded-leading, adjacent-leading}
 
 -- ---- the parts of a kept number
 
@@ -73,9 +73,6 @@ kept-unique {x} {y} k l = by-forms (k .form) (l .form)
 
 -- ---- the leading digits of a fraction
 
-dyadic : ℕ → ℕ → Fraction
-dyadic n a = record { num = n; den = 2 ^ a; positive = pow-pos a }
-
 module _ (z : Fraction) (a b : ℕ) where
   abbrev n : ℕ
   n = z .num * 2 ^ a
@@ -83,26 +80,20 @@ module _ (z : Fraction) (a b : ℕ) where
   abbrev u : ℕ
   u = z .den * 2 ^ b
 
-  scaled-dyadic : (s : ℕ) → Same (scaled s (minus b a)) (dyadic (s * 2 ^ b) a)
-  unfolding scaled dyadic
-  scaled-dyadic s = record { cross = minus-val s b a }
+  divisor-positive : 0 < u
+  divisor-positive = mul-pos (z .positive) (pow-pos b)
+
+  -- z is n / u × 2^(b − a)
+  cut-same : Same (divided (scaled n (minus b a)) u divisor-positive) z
+  unfolding scaled divided
+  cut-same = record { cross = omega (arith, ap (λ k. z .num * z .den * k) (minus-val 1 b a)) }
 
   between-cut : Between (n / u) (n % u) (minus b a) z
-  unfolding dyadic
-  between-cut =
-      let whole : n / u * u + n % u ≡ n = div-add-mod' n u in
-      let rest : n % u < u = mod-lt n (mul-pos (z .positive) (pow-pos b)) in
-      record {
-        from = at-most-trans (at-most-of-same (scaled-dyadic (n / u))) (record { cross = omega arith });
-        to = less-at-most-trans (record { cross = omega arith }) (at-most-of-same (same-sym (scaled-dyadic (suc (n / u)))));
-        none = λ is. at-most-trans (record { cross = omega arith }) (at-most-of-same (same-sym (scaled-dyadic (n / u))));
-        some = λ above. at-most-less-trans (at-most-of-same (scaled-dyadic (n / u))) (record { cross = omega arith });
-      }
+  between-cut = between-same cut-same (between-quotient n u divisor-positive (minus b a))
 
   normal-cut : 2 ^ 31 * u ≤ n → n < 2 ^ 32 * u → Normal (n / u)
   normal-cut least below =
-      let above : 0 < u = mul-pos (z .positive) (pow-pos b) in
-      record { least = le-div-iff-mul-le above .1 least; below = div-lt-iff-lt-mul above .1 below }
+      record { least = le-div-iff-mul-le divisor-positive .1 least; below = div-lt-iff-lt-mul divisor-positive .1 below }
 
 -- How far `round` scales z up makes the whole part 33 digits at least; so cut to 32 it is a significand.
 module _ (z : Fraction) (above : 0 < z .num) where
@@ -169,10 +160,6 @@ module _ (side : Side) {z : Fraction} {x : Kept} where
 pub nought-kept : IsKept nought
 nought-kept = record { form = inl refl }
 
-pub nought-same : (z : Fraction) → z .num ≡ 0 → Same (value nought) z
-unfolding nought scaled
-nought-same z is = record { cross = omega (arith, ap (λ n. n * 1) is) }
-
 pub unity-kept : IsKept unity
 unfolding unity
 unity-kept = record { form = inr (record { least = lit≤ tt; below = lit< tt }) }
@@ -196,8 +183,8 @@ unfolding round
 round-nought side z none = simp (none, zero-mul, zero-div, zero-mod, step-none) (carry-zero _)
 
 -- The greatest kept number not above z, or the least not below it.
-pub round-is : (side : Side) (z : Fraction) → Rounded side z (round side z)
-round-is side z = elim (eq-zero-or-pos (z .num)) [
+pub round-rounded : (side : Side) (z : Fraction) → Rounded side z (round side z)
+round-rounded side z = elim (eq-zero-or-pos (z .num)) [
   | inl none ↦ rw (round-nought side z none) (rounded-exact side nought-kept (nought-same z none))
   | inr above ↦ rounded-positive side z above
 ]
@@ -205,22 +192,22 @@ round-is side z = elim (eq-zero-or-pos (z .num)) [
 module _ (side : Side) where
   -- It is the only one.
   pub round-only : {z : Fraction} {x : Kept} → Rounded side z x → x ≡ round side z
-  round-only {z} r = rounded-unique side r (round-is side z)
+  round-only {z} r = rounded-unique side r (round-rounded side z)
 
-  pub round-same : {z w : Fraction} → Same z w → round side z ≡ round side w
-  round-same {z} {w} same = round-only (rounded-same side same (round-is side z))
+  pub round-cong : {z w : Fraction} → Same z w → round side z ≡ round side w
+  round-cong {z} {w} same = round-only (rounded-same side same (round-rounded side z))
 
-  pub round-exact : {z : Fraction} {x : Kept} → IsKept x → Same (value x) z → x ≡ round side z
-  round-exact kept same = round-only (rounded-exact side kept same)
+  pub round-kept : {z : Fraction} {x : Kept} → IsKept x → Same (value x) z → x ≡ round side z
+  round-kept kept same = round-only (rounded-exact side kept same)
 
   -- The rounding of a number whose leading digits are s, r being what is left below them.
   pub round-leading : (r : ℕ) {s : ℕ} {e : ℤ} {z : Fraction} → Normal s → Between s r e z → carry (s + step side r) e ≡ round side z
   round-leading r normal between = round-only (rounded-leading side r normal between)
 
 -- Rounding keeps order.
-pub round-mono : (side : Side) {z w : Fraction} → AtMost z w → AtMost (value (round side z)) (value (round side w))
-round-mono Low {z} {w} le = round-is Low w .best (round Low z) (round-is Low z .kept) (at-most-trans (round-is Low z .on-side) le)
-round-mono High {z} {w} le = round-is High z .best (round High w) (round-is High w .kept) (at-most-trans le (round-is High w .on-side))
+pub round-order : (side : Side) {z w : Fraction} → AtMost z w → AtMost (value (round side z)) (value (round side w))
+round-order Low {z} {w} le = round-rounded Low w .best (round Low z) (round-rounded Low z .kept) (at-most-trans (round-rounded Low z .on-side) le)
+round-order High {z} {w} le = round-rounded High z .best (round High w) (round-rounded High w .kept) (at-most-trans le (round-rounded High w .on-side))
 
 -- A number above zero and its rounding lie between the same two neighbours.
 pub round-adjacent : (side : Side) (z : Fraction) → 0 < z .num → Adjacent (value (round side z)) z
@@ -232,22 +219,22 @@ round-adjacent side z above =
 -- ---- the steps of the arithmetic
 
 module _ (side : Side) where
-  pub product-is : (x y : Kept) → Rounded side (times (value x) (value y)) (product side x y)
-  unfolding product
-  product-is x y = round-is side (times (value x) (value y))
+  pub product-is : (x y : Kept) → Rounded side (times (value x) (value y)) (roundedProduct side x y)
+  unfolding roundedProduct
+  product-is x y = round-rounded side (times (value x) (value y))
 
-  pub sum-is : (x y : Kept) → Rounded side (plus (value x) (value y)) (sum side x y)
-  unfolding sum
-  sum-is x y = round-is side (plus (value x) (value y))
+  pub sum-is : (x y : Kept) → Rounded side (plus (value x) (value y)) (roundedSum side x y)
+  unfolding roundedSum
+  sum-is x y = round-rounded side (plus (value x) (value y))
 
-  pub quotient-is : (x : Kept) (m : ℕ) (above : 0 < m) → Rounded side (divided (value x) m above) (quotient side x m above)
-  unfolding quotient
-  quotient-is x m above = round-is side (divided (value x) m above)
+  pub quotient-is : (x : Kept) (m : ℕ) (above : 0 < m) → Rounded side (divided (value x) m above) (roundedQuotient side x m above)
+  unfolding roundedQuotient
+  quotient-is x m above = round-rounded side (divided (value x) m above)
 
   pub integer-is : (n : ℕ) → Rounded side (integer n) (ofInteger side n)
   unfolding ofInteger
-  integer-is n = round-is side (integer n)
+  integer-is n = round-rounded side (integer n)
 
   pub basis-points-is : (p : ℕ) → Rounded side (over p 1) (ofBasisPoints side p)
   unfolding ofBasisPoints
-  basis-points-is p = round-is side (over p 1)
+  basis-points-is p = round-rounded side (over p 1)

@@ -1,10 +1,11 @@
 -- The leading digits of a fraction, and its rounding from them.
 -- Assumes nothing.
-use Prim.Native.Nat.{ℕ, zero, suc, _+_, _*_, _/_, _^_, _≤_, _<_}
-use mathlib.Core.Path.{_≡_, refl, sym}
+use Prim.Native.Nat.{ℕ, zero, suc, _+_, _*_, _/_, _%_, _^_, _≤_, _<_}
+use mathlib.Core.Path.{_≡_, refl, sym, ap}
 use mathlib.Core.Logic.{_⊎_, inl, inr}
 use mathlib.Core.Bool.{Bool, true, false, cond}
-use native.Mathlib.Nat.{add-zero, div-one, div-eq-of-lt, zero-lt-suc, mul-le-mul-left, pow-succ', lt-of-not-le}
+use native.Mathlib.Nat.{add-zero, zero-mul, div-one, div-eq-of-lt, div-add-mod', mod-lt, zero-lt-suc, pow-succ', lt-of-not-le}
+use native.Mathlib.Nat.{mul-pos, mul-le-mul-left, mul-le-mul-right, mul-lt-mul-of-pos-right}
 use native.Mathlib.Numerals.{add-one}
 use native.Mathlib.Decide.{decLe}
 use native.Mathlib.Omega.{arith}
@@ -12,9 +13,11 @@ use lib.Dec.{eqb, lit<, lit≤}
 use lib.Arith.{lt-of-le-ne}
 use lib.Pow.{pow-pos}
 use lib.IntN.{ℤ, pos, _+ℤ_, +ℤ-idr}
+use lib.Ieee.{up, down}
+use lib.Ieee.Fits.{up-pos, down-pos}
 use borrow.Author.Tests.{eqb-true, eqb-false, ne-eqb}
-use Rattle.model.specs.Fraction.{Fraction, Same, AtMost, Less}
-use Rattle.model.specs.Fraction.Laws.{same-refl, same-sym, at-most-trans, at-most-of-same, at-most-of-less, not-both}
+use Rattle.model.specs.Fraction.{Fraction, Same, AtMost, Less, divided}
+use Rattle.model.specs.Fraction.Laws.{same-refl, same-sym, at-most-trans, at-most-of-same, at-most-of-less, less-at-most-trans, at-most-less-trans, not-both}
 use Rattle.kept.specs.declared.Kept.{Kept}
 use Rattle.kept.specs.declared.Side.{Side}
 use Rattle.kept.specs.declared.Side.the-variants.{Low, High}
@@ -28,7 +31,46 @@ pub record Between (s r : ℕ) (e : ℤ) (z : Fraction) : Type 0 where
   pub none : r ≡ 0 → AtMost z (scaled s e)
   pub some : 0 < r → Less (scaled s e) z
 
-nought-least : (z : Fraction) → AtMost (value nought) z
+-- The whole part of w / m and what is left.
+pub between-quotient : (w m : ℕ) (above : 0 < m) (g : ℤ) → Between (w / m) (w % m) g (divided (scaled w g) m above)
+unfolding scaled divided
+between-quotient w m above g =
+    let c = up g * down g in
+    let positive : 0 < c = mul-pos (up-pos g) (down-pos g) in
+    let whole : w / m * m + w % m ≡ w = div-add-mod' w m in
+    let part : w % m < m = mod-lt w above in
+    let least : w / m * m ≤ w = omega arith in
+    let next : w < suc (w / m) * m = omega arith in
+    record {
+      from = record { cross = omega (arith, mul-le-mul-right c least) };
+      to = record { cross = omega (arith, mul-lt-mul-of-pos-right next positive) };
+      none = λ none. let all : w ≤ w / m * m = omega arith in record { cross = omega (arith, mul-le-mul-right c all) };
+      some = λ some. let more : w / m * m < w = omega arith in record { cross = omega (arith, mul-lt-mul-of-pos-right more positive) };
+    }
+
+pub between-same : {s r : ℕ} {e : ℤ} {y z : Fraction} → Same y z → Between s r e y → Between s r e z
+between-same same between =
+    let there = at-most-of-same same in
+    let back = at-most-of-same (same-sym same) in
+    record {
+      from = at-most-trans (between .from) there;
+      to = at-most-less-trans back (between .to);
+      none = λ none. at-most-trans back (between .none none);
+      some = λ some. less-at-most-trans (between .some some) there;
+    }
+
+-- ---- zero
+
+pub nought-same : (z : Fraction) → z .num ≡ 0 → Same (value nought) z
+unfolding nought scaled
+nought-same z none = record { cross = omega (arith, ap (λ n. n * 1) none) }
+
+-- Zero at any exponent.
+pub nought-at : (s : ℕ) (e : ℤ) → s ≡ 0 → Same (value nought) (scaled s e)
+unfolding scaled
+nought-at s e none = nought-same (scaled s e) (rw none (zero-mul (up e)))
+
+pub nought-least : (z : Fraction) → AtMost (value nought) z
 unfolding nought scaled
 nought-least z = record { cross = omega arith }
 
@@ -50,10 +92,6 @@ module _ {s : ℕ} (normal : Normal s) (e : ℤ) where
   neighbours y kept = elim (kept .form) [ inl is ↦ rw is (inl (nought-least (scaled s e))) | inr other ↦ place other (y .exponent) ]
 
 -- ---- the carry
-
-nought-at : (e : ℤ) → Same (value nought) (scaled 0 e)
-unfolding nought scaled
-nought-at e = record { cross = omega arith }
 
 -- By what the carry tests: zero, 2^32, or another number.
 by-carry : (P : Kept → Type 0) (s : ℕ) (e : ℤ)
@@ -77,7 +115,7 @@ carry-zero e = refl
 carry-value : (s : ℕ) (e : ℤ) → Same (value (carry s e)) (scaled s e)
 carry-value s e =
     by-carry (λ x. Same (value x) (scaled s e)) s e
-    (λ is. rw is (nought-at e))
+    (nought-at s e)
     (λ is. rw is (scaled-shift (2 ^ 31) e 1 refl))
     (λ _ _. same-refl)
 

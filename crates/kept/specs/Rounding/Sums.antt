@@ -11,18 +11,17 @@ use lib.Dec.{eqb, lit<, lit≤}
 use lib.Pow.{pow-mono}
 use lib.IntN.{ℤ, pos, negsuc, _+ℤ_, _-ℤ_, +ℤ-negℤ-cancel, -ℤ-+ℤ-cancel}
 use lib.Signed.{_≤ℤ_, ltZ}
-use lib.Ieee.{up, down}
 use borrow.Author.Tests.{eqb-true, eqb-false}
 use Rattle.model.specs.Fraction.{Same, plus}
 use Rattle.model.specs.Fraction.Laws.{same-refl, same-sym, same-trans, at-most-of-same, less-at-most-trans}
 use Rattle.model.specs.Fraction.Laws.{at-most-less-trans, at-most-trans, plus-same, plus-comm}
 use Rattle.kept.specs.declared.Kept.{Kept}
 use Rattle.kept.specs.declared.Side.{Side}
-use Rattle.kept.specs.Rounding.{scaled, value, Normal, Reach, Operand, sum, round}
+use Rattle.kept.specs.Rounding.{scaled, value, Normal, Reach, Operand, roundedSum, round}
 use Rattle.kept.specs.Rounding.Exponents.{order-yes, order-no}
 use Rattle.kept.specs.Rounding.Powers.{scaled-shift, scaled-plus, scaled-less, scaled-at-most}
-use Rattle.kept.specs.Rounding.Leading.{Between}
-use Rattle.kept.specs.Rounding.Laws.{kept-normal, round-same, round-leading}
+use Rattle.kept.specs.Rounding.Leading.{Between, nought-at}
+use Rattle.kept.specs.Rounding.Laws.{kept-normal, round-cong, round-leading}
 
 -- ---- the sum of s × 2^e and t × 2^f, e being d above f
 
@@ -84,16 +83,14 @@ place-addend {x} operand = by-test (eqb (x .significand) 0) refl
         let normal = kept-normal (operand .kept) (eqb-false (x .significand) 0 test) in
         record { small = normal .below; reach = operand .reach; form = inr normal }
 
-zero-same : (s : ℕ) (e f : ℤ) → s ≡ 0 → Same (scaled s e) (scaled s f)
-unfolding scaled
-zero-same s e f none = record { cross = omega (arith, ap (λ n. n * (up e * down f)) none, ap (λ n. n * (up f * down e)) none) }
-
 place-value : (x : Kept) → Same (value (placeOf x)) (value x)
 unfolding placeOf
 place-value x = by-test (eqb (x .significand) 0) refl
   where
     by-test : (t : Bool) → eqb (x .significand) 0 ≡ t → Same (scaled (x .significand) (cond t lowest (x .exponent))) (value x)
-    by-test true test = zero-same (x .significand) lowest (x .exponent) (eqb-true (x .significand) 0 test)
+    by-test true test =
+        let none = eqb-true (x .significand) 0 test in
+        same-trans (same-sym (nought-at (x .significand) lowest none)) (nought-at (x .significand) (x .exponent) none)
     by-test false test = same-refl
 
 -- No operand stands below the lowest exponent.
@@ -136,7 +133,7 @@ module _ (side : Side) (x y : Kept) (a : Addend x) (b : Addend y) where
   round-near : (d : ℕ) → e ≡ f +ℤ pos d → round side (scaled (digits d) (e -ℤ pos d)) ≡ round side (plus (value x) (value y))
   round-near d apart =
       let back : e -ℤ pos d ≡ f = ap (λ g. g -ℤ pos d) apart ∙ +ℤ-negℤ-cancel f (pos d) in
-      rw back (round-same side (sum-exact (x .significand) (y .significand) e f d apart))
+      rw back (round-cong side (sum-exact (x .significand) (y .significand) e f d apart))
 
   round-beyond : (d : ℕ) → e ≡ f +ℤ pos d → 32 ≤ d → round side (scaled (digits 32) (e -ℤ pos 32)) ≡ round side (plus (value x) (value y))
   round-beyond d apart far =
@@ -146,7 +143,7 @@ module _ (side : Side) (x y : Kept) (a : Addend x) (b : Addend y) where
         | inl is ↦ absurd (nothing-below d (b .reach) (rw is at apart) far)
         | inr normal ↦ normal
       ] in
-      round-same side (sum-exact (x .significand) (y .significand) e g 32 above)
+      round-cong side (sum-exact (x .significand) (y .significand) e g 32 above)
       ∙ round-far side (x .significand) (y .significand) e g f 32 d above apart (lit≤ tt) far normal (b .small)
 
   pub round-sum : {r : ℕ} → Gap e f r → round side (scaled (digits r) (e -ℤ pos r)) ≡ round side (plus (value x) (value y))
@@ -171,12 +168,12 @@ ordered-addends {x} {y} {u} {v} p q o = rw (o .larger, o .smaller) (by-test (ltZ
     by-test true test = (place-addend q, (place-addend p, order-yes test))
     by-test false test = (place-addend p, (place-addend q, order-no test))
 
-pub ordered-sum : (side : Side) {x y u v : Kept} → Ordered x y u v → round side (plus (value u) (value v)) ≡ sum side x y
-unfolding sum
+pub ordered-sum : (side : Side) {x y u v : Kept} → Ordered x y u v → round side (plus (value u) (value v)) ≡ roundedSum side x y
+unfolding roundedSum
 ordered-sum side {x} {y} o = rw (o .larger, o .smaller) (by-test (ltZ (placeOf x .exponent) (placeOf y .exponent)))
   where
     by-test : (t : Bool)
         → round side (plus (value (cond t (placeOf y) (placeOf x))) (value (cond t (placeOf x) (placeOf y)))) ≡ round side (plus (value x) (value y))
     by-test true =
-        round-same side (same-trans (plus-comm (value (placeOf y)) (value (placeOf x))) (plus-same (place-value x) (place-value y)))
-    by-test false = round-same side (plus-same (place-value x) (place-value y))
+        round-cong side (same-trans (plus-comm (value (placeOf y)) (value (placeOf x))) (plus-same (place-value x) (place-value y)))
+    by-test false = round-cong side (plus-same (place-value x) (place-value y))

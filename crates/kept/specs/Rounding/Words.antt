@@ -3,7 +3,7 @@
 use Prim.Native.Nat.{ℕ, suc, _+_, _-_, _*_, _/_, _%_, _^_, _≤_, _<_}
 use mathlib.Core.Path.{_≡_, sym, ap, _∙_}
 use mathlib.Core.Logic.{inl, inr}
-use native.Mathlib.Nat.{eq-zero-or-pos, eq-of-mul-eq-mul-right, mul-pos, mul-le-mul-right, mul-lt-mul-of-pos-right}
+use native.Mathlib.Nat.{eq-zero-or-pos, mul-le-mul-right, mul-lt-mul-of-pos-right}
 use native.Mathlib.Nat.{lt-of-mul-lt-mul-right, le-div-iff-mul-le, div-lt-iff-lt-mul, div-add-mod', mod-lt}
 use native.Mathlib.Nat.{lt-of-not-le, lt-of-lt-of-le, not-le-of-lt, two-pow-succ, mod-eq-of-lt, zero-mul, zero-mod}
 use native.Mathlib.Nat.{lt-irrefl}
@@ -12,16 +12,14 @@ use lib.Count.{leadingZeros, leading-top}
 use lib.Dec.{lit<}
 use lib.Pow.{pow-add, pow-pos, pow-mono}
 use lib.IntN.{ℤ, pos, negℤ, _+ℤ_, _-ℤ_, +ℤ-assoc, +ℤ-comm, -ℤ-+ℤ-cancel}
-use lib.Ieee.{up, down}
-use lib.Ieee.Fits.{up-pos, down-pos}
 use Rattle.model.specs.Fraction.{Fraction, Same, AtMost, Less, divided}
-use Rattle.model.specs.Fraction.Laws.{same-sym, at-most-trans, at-most-of-same, less-at-most-trans, at-most-less-trans, divided-same}
+use Rattle.model.specs.Fraction.Laws.{same-sym, at-most-trans, at-most-of-same, less-at-most-trans, at-most-less-trans, at-most-antisymm, divided-same}
 use Rattle.kept.specs.declared.Kept.{Kept}
 use Rattle.kept.specs.declared.Side.{Side}
-use Rattle.kept.specs.Rounding.{scaled, nought, Normal, step, carry, round}
+use Rattle.kept.specs.Rounding.{scaled, value, nought, Normal, step, carry, round}
 use Rattle.kept.specs.Rounding.Powers.{scaled-shift, scaled-at-most, scaled-less}
-use Rattle.kept.specs.Rounding.Leading.{Between, carry-zero}
-use Rattle.kept.specs.Rounding.Laws.{step-none, round-leading, round-nought, round-same}
+use Rattle.kept.specs.Rounding.Leading.{Between, between-quotient, nought-least, nought-at, carry-zero}
+use Rattle.kept.specs.Rounding.Laws.{step-none, nought-kept, round-leading, round-kept, round-cong}
 
 -- ---- a word shifted up by its leading zeros
 
@@ -152,49 +150,26 @@ module _ {v rest : ℕ} {e : ℤ} {z : Fraction} (word : Shifted v) (between : B
     ];
   }
 
-module _ (side : Side) {v rest : ℕ} {e : ℤ} {z : Fraction} (large : 0 < rest → 2 ^ 31 ≤ v) (between : Between v rest e z) where
-  -- A word that is zero, with nothing below it.
-  zero-word : v ≡ 0 → round side z ≡ nought
-  unfolding scaled
-  zero-word none = elim (eq-zero-or-pos rest) [
-    | inl exact ↦
-        let least = between .none exact in
-        round-nought side z
-        (eq-of-mul-eq-mul-right (down e) (down-pos e) (z .num) 0 (omega (arith, ap (λ n. n * (up e * z .den)) none)))
-    | inr more ↦ absurd (omega (arith, large more))
-  ]
-
+module _ {v rest : ℕ} {e : ℤ} {z : Fraction} (large : 0 < rest → 2 ^ 31 ≤ v) (between : Between v rest e z) where
+  -- Below a word that is zero nothing is left, and the number is zero.
   zero-rest : v ≡ 0 → rest ≡ 0
   zero-rest none = elim (eq-zero-or-pos rest) [ inl exact ↦ exact | inr more ↦ absurd (omega (arith, large more)) ]
+
+  zero-word : v ≡ 0 → Same (value nought) z
+  zero-word none =
+      at-most-antisymm (nought-least z) (at-most-trans (between .none (zero-rest none)) (at-most-of-same (same-sym (nought-at v e none))))
 
 -- v × 2^e, or more where rest is not zero, rounded from the upper digits of v.
 pub round-word : (side : Side) {v rest : ℕ} {e : ℤ} {z : Fraction} → Shifted v → (0 < rest → 2 ^ 31 ≤ v) → Between v rest e z
     → carry (v * 2 ^ shiftOf v / 2 ^ 32 + step side (v * 2 ^ shiftOf v % 2 ^ 32 + rest)) (e +ℤ pos 32 -ℤ pos (shiftOf v)) ≡ round side z
 round-word side {v} {rest} {e} {z} word large between = elim (eq-zero-or-pos v) [
   | inl none ↦
-      rw (none, zero-rest side large between none, zero-mul)
-      (rw (step-none side) (carry-zero (e +ℤ pos 32 -ℤ pos (shiftOf 0)))) ∙ sym (zero-word side large between none)
+      rw (none, zero-rest large between none, zero-mul)
+      (rw (step-none side) (carry-zero (e +ℤ pos 32 -ℤ pos (shiftOf 0)))) ∙ round-kept side nought-kept (zero-word large between none)
   | inr above ↦ round-leading side _ (normal-upper word between above) (between-upper word between (λ more. word .half (large more)))
 ]
 
 -- ---- a quotient
-
--- The whole part of w / m and what is left.
-between-quotient : (w m : ℕ) (above : 0 < m) (g : ℤ) → Between (w / m) (w % m) g (divided (scaled w g) m above)
-unfolding scaled divided
-between-quotient w m above g =
-    let c = up g * down g in
-    let positive : 0 < c = mul-pos (up-pos g) (down-pos g) in
-    let whole : w / m * m + w % m ≡ w = div-add-mod' w m in
-    let part : w % m < m = mod-lt w above in
-    let least : w / m * m ≤ w = omega arith in
-    let next : w < suc (w / m) * m = omega arith in
-    record {
-      from = record { cross = omega (arith, mul-le-mul-right c least) };
-      to = record { cross = omega (arith, mul-lt-mul-of-pos-right next positive) };
-      none = λ none. let all : w ≤ w / m * m = omega arith in record { cross = omega (arith, mul-le-mul-right c all) };
-      some = λ some. let more : w / m * m < w = omega arith in record { cross = omega (arith, mul-lt-mul-of-pos-right more positive) };
-    }
 
 -- n × 2^e / m is the quotient of n shifted up.
 pub round-quotient : (side : Side) (n m : ℕ) (above : 0 < m) (e : ℤ) (k : ℕ) {r : Kept}
@@ -204,7 +179,7 @@ round-quotient side n m above e k rounds =
     let g = e -ℤ pos k in
     let moved = scaled-shift n g k (sym (-ℤ-+ℤ-cancel e (pos k))) in
     rounds (divided (scaled (n * 2 ^ k) g) m above) (between-quotient (n * 2 ^ k) m above g)
-    ∙ round-same side (divided-same m above (same-sym moved))
+    ∙ round-cong side (divided-same m above (same-sym moved))
 
 -- It has 32 digits or more where anything is left, for a divisor of 32 digits.
 pub quotient-many : {n m : ℕ} → Shifted n → 0 < m → m < 2 ^ 32 → 0 < n * 2 ^ shiftOf n % m → 2 ^ 31 ≤ n * 2 ^ shiftOf n / m

@@ -9,7 +9,7 @@ use mir.Syntax.{w32}
 use mir.Val.{toZ, ofZ}
 use Rattle.model.specs.Fraction.{times}
 use Rattle.model.specs.Fraction.Laws.{same-sym}
-use Rattle.kept.specs.Rounding.{Reach, value, product}
+use Rattle.kept.specs.Rounding.{Reach, value, roundedProduct}
 use Rattle.kept.specs.Rounding.Exponents.{reach-plus, reach-weaken, reach-fits, reach-back}
 use Rattle.kept.specs.Rounding.Powers.{scaled-times}
 use Rattle.kept.specs.Rounding.Arithmetic.{between-exact, product-word}
@@ -42,7 +42,7 @@ keep-requires c κs =
     (rw (exponent start, reach-back (lit< tt) (reach start)) (reach-weaken (lit≤ tt) (reach start)), λ none. absurd (omega arith))
 
 returns : tie.Need-returns
-unfolding product
+unfolding roundedProduct
 returns c =
     let start = c .before .before .before .before .before .before .before in
     let x = start .args .self in

@@ -2,7 +2,7 @@
 -- Assumes nothing.
 use borrow.Author.Needs.{needs}
 use lib.Dec.{lit<}
-use Rattle.kept.specs.Rounding.{quotient}
+use Rattle.kept.specs.Rounding.{roundedQuotient}
 use Rattle.kept.specs.Rounding.Exponents.{reach-back}
 use Rattle.kept.proofs.Kept.quotient.Statement.{statement}
 use Rattle.kept.proofs.Kept.quotient.Tie as tie
@@ -14,7 +14,7 @@ ratio-requires : tie.Need-ratio-requires
 ratio-requires c κs = search needs
 
 returns : tie.Need-returns
-unfolding quotient
+unfolding roundedQuotient
 returns c = rw (reach-back (lit< tt) (c .before .before .before .pre .0 .reach)) at (c .ratio .ensures)
 
 pub quotient-spec : {M : Type 1} → statement M

@@ -9,10 +9,9 @@ use lib.Dec.{lit<, lit≤}
 use lib.IntN.{pos, _-ℤ_}
 use mir.Syntax.{w32}
 use mir.Val.{toZ, ofZ}
-use mir.Facts.{toZ-ofZ}
 use Rattle.model.specs.Fraction.Laws.{same-refl}
 use Rattle.kept.specs.Rounding.{scaled}
-use Rattle.kept.specs.Rounding.Exponents.{reach-minus, reach-whole, reach-weaken, reach-back}
+use Rattle.kept.specs.Rounding.Exponents.{reach-minus, reach-whole, reach-weaken, reach-back, result-back}
 use Rattle.kept.specs.Rounding.Arithmetic.{between-exact}
 use Rattle.kept.specs.Rounding.Sums.{Gap, gap-few, sum-word, round-sum}
 use Rattle.kept.proofs.rounding.add.Statement.{statement}
@@ -43,7 +42,7 @@ exponent : (c : tie.After-lowered)
     ≡ c .before .before .before .before .before .before .before .args .x .exponent -ℤ pos (c .before .before .before .before .gap .result)
 exponent c =
     let start = c .before .before .before .before .before .before .before in
-    rw (toZ-ofZ {w = w32} {z = c .lowered .result} (record { sfits = c .lowered .ok }))
+    rw (result-back (c .lowered .result) (c .lowered .ok))
     (rw (reach-back (lit< tt) (start .pre .0 .reach)) at (c .lowered .ensures))
 
 cast-v : tie.Need-cast-v
@@ -64,7 +63,7 @@ add-v c = record { fits = omega (arith, whole (c .before .before), digits (c .be
 lowered-requires : tie.Need-lowered-requires
 lowered-requires c κs =
     let start = c .before .before .before .before .before .before in (
-      rw (reach-back (lit< tt) (start .pre .0 .reach)) (start .pre .0 .reach),
+      rw (reach-back (lit< tt) (start .pre .0 .reach)) (reach-weaken (lit≤ tt) (start .pre .0 .reach)),
       omega (arith, gap-few (gap (c .before .before .before))),
     )
 

@@ -2,8 +2,8 @@
 -- Assumes nothing.
 use mathlib.Core.Path.{refl}
 use borrow.Author.Needs.{needs}
-use mir.Syntax.{w32}
 use mir.Facts.{toZ-ofZ}
+use Rattle.kept.specs.Rounding.Exponents.{result-back}
 use Rattle.kept.specs.Rounding.Leading.{carry-significand, carry-below}
 use Rattle.kept.proofs.rounding.carried.Statement.{statement}
 use Rattle.kept.proofs.rounding.carried.Tie as tie
@@ -22,7 +22,7 @@ returns c =
     let start = c .before in
     rw (
       ← carry-significand (start .args .significand) (start .args .exponent) (start .pre .0),
-      toZ-ofZ {w = w32} {z = c .settled .result} (record { sfits = c .settled .ok }),
+      result-back (c .settled .result) (c .settled .ok),
       c .settled .ensures,
       toZ-ofZ (start .fits .exponent),
     )

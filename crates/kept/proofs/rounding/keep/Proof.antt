@@ -5,13 +5,13 @@ use mathlib.Core.Path.{_≡_}
 use borrow.Author.Needs.{needs}
 use native.Mathlib.Nat.{le-of-lt}
 use native.Mathlib.Omega.{arith}
-use lib.Dec.{lit≤}
+use lib.Dec.{lit<, lit≤}
 use lib.IntN.{pos, _+ℤ_, _-ℤ_}
 use mir.Syntax.{w32}
 use mir.Val.{toZ, ofZ}
 use mir.Facts.{toZ-ofZ}
 use Rattle.kept.specs.Rounding.{Reach}
-use Rattle.kept.specs.Rounding.Exponents.{reach-plus, reach-minus, reach-whole, reach-weaken}
+use Rattle.kept.specs.Rounding.Exponents.{reach-plus, reach-minus, reach-whole, reach-weaken, reach-fits, reach-back, result-back}
 use Rattle.kept.specs.Rounding.Leading.{step-at-most-one}
 use Rattle.kept.specs.Rounding.Words.{shiftOf, Shifted, shifted, round-word}
 use Rattle.kept.proofs.rounding.keep.Statement.{statement}
@@ -26,19 +26,22 @@ shifted-below c = rw (c .shifted-up .ensures) (word (c .before) .below)
 little : (c : tie.After-one-more) → c .one-more .result ≤ 1
 little c = rw (c .one-more .ensures) (step-at-most-one _ _)
 
-exponent : (c : tie.After-raised)
-    → toZ w32 (ofZ w32 (c .raised .result))
+-- The exponent of the upper 32 digits, before the shift.
+upper : (c : tie.Start) → Reach 2000000132 (c .args .exponent +ℤ pos 32)
+upper c = reach-plus (c .pre .0) (reach-whole {n = 32} {m = 32} (lit≤ tt))
+
+exponent : (c : tie.After-lowered)
+    → toZ w32 (ofZ w32 (c .lowered .result))
     ≡ c .before .before .before .before .args .exponent +ℤ pos 32 -ℤ pos (shiftOf (c .before .before .before .before .args .v))
 exponent c =
-    rw (toZ-ofZ {w = w32} {z = c .raised .result} (record { sfits = c .raised .ok }))
-    (rw (c .before .headroom .ensures, toZ-ofZ (c .before .before .before .before .fits .exponent)) at (c .raised .ensures))
+    let start = c .before .before .before .before in
+    rw (result-back (c .lowered .result) (c .lowered .ok))
+    (rw (c .before .headroom .ensures, toZ-ofZ (start .fits .exponent), reach-back (lit< tt) (upper start)) at (c .lowered .ensures))
 
-reach : (c : tie.After-raised) → Reach 2000000200 (toZ w32 (ofZ w32 (c .raised .result)))
+reach : (c : tie.After-lowered) → Reach 2000000200 (toZ w32 (ofZ w32 (c .lowered .result)))
 reach c =
     let start = c .before .before .before .before in
-    rw (exponent c)
-    (reach-weaken {n = 2000000196} (lit≤ tt)
-    (reach-minus (reach-plus (start .pre .0) (reach-whole {n = 32} {m = 32} (lit≤ tt))) (reach-whole (le-of-lt (word start .few)))))
+    rw (exponent c) (reach-weaken {n = 2000000196} (lit≤ tt) (reach-minus (upper start) (reach-whole (le-of-lt (word start .few)))))
 
 shifted-up-requires : tie.Need-shifted-up-requires
 shifted-up-requires c κs = search needs
@@ -52,13 +55,18 @@ one-more-requires c κs = search needs
 add-carried : tie.Need-add-carried
 add-carried c = record { fits = omega (arith, little c, shifted-below (c .before)) }
 
+add-lowered : tie.Need-add-lowered
+add-lowered c =
+    let start = c .before .before in
+    rw (toZ-ofZ (start .fits .exponent)) (reach-fits (lit< tt) (upper start))
+
 headroom-requires : tie.Need-headroom-requires
 headroom-requires c κs = search needs
 
-raised-requires : tie.Need-raised-requires
-raised-requires c κs =
+lowered-requires : tie.Need-lowered-requires
+lowered-requires c κs =
     let start = c .before .before .before in
-    rw (toZ-ofZ (start .fits .exponent), c .headroom .ensures) (start .pre .0, le-of-lt (word start .few))
+    rw (toZ-ofZ (start .fits .exponent), reach-back (lit< tt) (upper start), c .headroom .ensures) (upper start, le-of-lt (word start .few))
 
 carried-requires : tie.Need-carried-requires
 carried-requires c κs = (omega (arith, little (c .before .before), shifted-below (c .before .before .before)), reach c)
@@ -77,7 +85,8 @@ keep-spec =
     add-dropped
     one-more-requires
     add-carried
+    add-lowered
     headroom-requires
-    raised-requires
+    lowered-requires
     carried-requires
     returns)

@@ -9,7 +9,7 @@ use lib.IntN.{pos, _-ℤ_}
 use mir.Syntax.{w32}
 use mir.Val.{toZ, ofZ}
 use mir.Facts.{toZ-ofZ}
-use Rattle.kept.specs.Rounding.Exponents.{reach-minus, reach-whole, reach-weaken}
+use Rattle.kept.specs.Rounding.Exponents.{reach-minus, reach-whole, reach-weaken, result-back}
 use Rattle.kept.specs.Rounding.Words.{shiftOf, Shifted, shifted, round-quotient, quotient-many}
 use Rattle.kept.proofs.rounding.ratio.Statement.{statement}
 use Rattle.kept.proofs.rounding.ratio.Tie as tie
@@ -20,7 +20,7 @@ word c = shifted (c .fits .n .fits)
 exponent : (c : tie.After-lowered)
     → toZ w32 (ofZ w32 (c .lowered .result)) ≡ c .before .before .before .args .exponent -ℤ pos (shiftOf (c .before .before .before .args .n))
 exponent c =
-    rw (toZ-ofZ {w = w32} {z = c .lowered .result} (record { sfits = c .lowered .ok }))
+    rw (result-back (c .lowered .result) (c .lowered .ok))
     (rw (c .before .headroom .ensures, toZ-ofZ (c .before .before .before .fits .exponent)) at (c .lowered .ensures))
 
 shifted-up-requires : tie.Need-shifted-up-requires
@@ -41,7 +41,7 @@ headroom-requires c κs = search needs
 lowered-requires : tie.Need-lowered-requires
 lowered-requires c κs =
     let start = c .before .before in
-    rw (toZ-ofZ (start .fits .exponent), c .headroom .ensures) (start .pre .0, le-of-lt (word start .few))
+    rw (toZ-ofZ (start .fits .exponent), c .headroom .ensures) (reach-weaken (lit≤ tt) (start .pre .0), le-of-lt (word start .few))
 
 keep-requires : tie.Need-keep-requires
 keep-requires c κs =
