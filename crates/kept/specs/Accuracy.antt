@@ -1,6 +1,6 @@
 -- How far a kept number is from the exact value that it bounds.
 -- Assumes nothing.
-use Prim.Native.Nat.{ℕ, _*_, _-_, _^_, _≤_}
+use Prim.Native.Nat.{ℕ, _+_, _*_, _-_, _^_, _≤_, _<_}
 use Rattle.model.specs.Fraction.{Fraction}
 use Rattle.kept.specs.declared.Kept.{Kept}
 use Rattle.kept.specs.declared.Side.{Side}
@@ -25,3 +25,8 @@ Near High n x v = Le n x v
 pub record Bound (side : Side) (n : ℕ) (x : Kept) (v : Fraction) : Type 0 where
   pub order : OnSide side (value x) v
   pub near : Near side n (value x) v
+
+-- Two bounds within n parts of one value are at most one part in g of it apart: with b = 2^31 and c = b − n, g × (b/c − c/b) ≤ 1.
+pub record Fine (g n : ℕ) : Type 0 where
+  pub positive : 0 < g
+  pub small : g * (precision * precision) ≤ precision * (precision - n) + g * ((precision - n) * (precision - n))

@@ -17,7 +17,7 @@ use Rattle.kept.specs.declared.Side.the-variants.{Low, High}
 use Rattle.kept.specs.Rounding.{OnSide, Normal, scaled, value, round, roundedProduct, roundedSum, roundedQuotient, ofInteger, ofBasisPoints}
 use Rattle.kept.specs.Rounding.Leading.{Adjacent, nought-same}
 use Rattle.kept.specs.Rounding.Laws.{round-rounded, round-nought, round-adjacent}
-use Rattle.kept.specs.Accuracy.{precision, Le, Near, Bound}
+use Rattle.kept.specs.Accuracy.{precision, Le, Near, Bound, Fine}
 
 precision-positive : 0 < precision
 unfolding precision
@@ -173,14 +173,22 @@ bound-quotient m above b =
     let law : Operation _ _ _ (λ x y. divided x m above) = record { order = λ l k. divided-mono m above l; near = λ l k. le-divided m above l } in
     bound-operation law b b
 
--- The upper bound hi and the lower bound lo of v at n parts: g × (hi − lo) ≤ v. Let b = 2^31 and c = b − n. Then hi ≤ v × b/c and
--- v × c/b ≤ lo, and what is asked of the numbers is g × (b/c − c/b) ≤ 1.
+-- Fewer parts are finer.
+pub fine-weaken : {g n m : ℕ} → n ≤ m → Fine g m → Fine g n
+fine-weaken {g} {n} {m} l fine =
+    let less : precision - m ≤ precision - n = omega arith in
+    record {
+      positive = fine .positive;
+      small =
+          omega (arith, fine .small, mul-le-mul-left precision less, mul-le-mul-left g (mul-le-mul less less));
+    }
+
+-- The upper bound hi and the lower bound lo of v at n parts: g × (hi − lo) ≤ v, since hi ≤ v × b/c and v × c/b ≤ lo for b = 2^31 and c = b − n.
 pub bound-distance :
-    {n : ℕ} {x y : Kept} {v : Fraction} (g : ℕ)
-    → g * (precision * precision) ≤ precision * (precision - n) + g * ((precision - n) * (precision - n))
-    → Bound Low n x v → Bound High n y v → AtMost (times (integer g) (value y)) (plus v (times (integer g) (value x)))
+    {n g : ℕ} {x y : Kept} {v : Fraction}
+    → Fine g n → Bound Low n x v → Bound High n y v → AtMost (times (integer g) (value y)) (plus v (times (integer g) (value x)))
 unfolding times plus integer
-bound-distance {n} {x} {y} {v} g small low high =
+bound-distance {n} {g} {x} {y} {v} fine low high =
     let lo : Fraction = value x in
     let hi : Fraction = value y in
     let b : ℕ = precision in
@@ -192,10 +200,10 @@ bound-distance {n} {x} {y} {v} g small low high =
     omega (arith, mul-le-mul-left (g * c * hi .den) (low .near .cross)) in
     elim (decLe 1 c) [
       | yes above ↦ record {
-        cross = le-of-mul-le-mul-right {k = b * c} (omega (arith, mul-le-mul-left common small)) (mul-pos precision-positive above);
+        cross = le-of-mul-le-mul-right {k = b * c} (omega (arith, mul-le-mul-left common (fine .small))) (mul-pos precision-positive above);
       }
       | no none ↦
           let empty : c ≡ 0 = omega arith in
-          let nothing : g ≡ 0 = omega (arith, mul-le-mul-left g (mul-pos precision-positive precision-positive), rw empty at small) in
+          let nothing : g ≡ 0 = omega (arith, mul-le-mul-left g (mul-pos precision-positive precision-positive), rw empty at (fine .small)) in
           rw nothing (omega arith)
     ]

@@ -3,16 +3,16 @@
 use Prim.Native.Nat.{ℕ, suc, _+_, _-_, _*_, _/_, _%_, _^_, _≤_, _<_}
 use mathlib.Core.Path.{_≡_, refl, sym, ap, _∙_}
 use mathlib.Core.Logic.{_⊎_, inl, inr}
-use native.Mathlib.Nat.{eq-zero-or-pos, zero-mul, zero-div, zero-mod, mul-le-mul-left, mul-le-mul-right, mul-pos}
+use native.Mathlib.Nat.{eq-zero-or-pos, zero-mul, zero-div, zero-mod, mul-le-mul-left, mul-le-mul-right, mul-lt-mul-of-pos-right, mul-pos}
 use native.Mathlib.Nat.{pow-succ', le-div-iff-mul-le, div-lt-iff-lt-mul, lt-of-not-le}
 use native.Mathlib.Nat.{lt-of-lt-of-le, not-le-of-lt, eq-of-mul-eq-mul-right}
 use native.Mathlib.Omega.{arith}
 use lib.Dec.{lit<, lit≤}
 use lib.Pow.{pow-add, pow-pos, pow-mono}
-use lib.IntN.{ℤ, pos, _+ℤ_}
+use lib.IntN.{ℤ, pos, _+ℤ_, _-ℤ_, -ℤ-+ℤ-cancel}
 use lib.Ieee.{up, down, minus, size}
 use lib.Ieee.Fits.{up-pos, down-pos}
-use lib.Ieee.Digits.{minus-val, size-lt, size-reaches}
+use lib.Ieee.Digits.{minus-val, size-lt, size-le, size-reaches}
 use Rattle.model.specs.Fraction.{Fraction, Same, AtMost, certainty, plus, times, divided, integer, over}
 use Rattle.model.specs.Fraction.Laws.{same-sym, same-trans, at-most-trans, at-most-of-same, at-most-antisymm}
 use Rattle.kept.specs.declared.Kept.{Kept}
@@ -238,3 +238,36 @@ module _ (side : Side) where
   pub basis-points-is : (p : ℕ) → Rounded side (over p 1) (ofBasisPoints side p)
   unfolding ofBasisPoints
   basis-points-is p = round-rounded side (over p 1)
+
+-- A whole number below 2^32 is kept as it is: its digits moved up to 32.
+module _ (n : ℕ) (above : 0 < n) (below : n < 2 ^ 32) where
+  abbrev moved : ℕ
+  moved = 32 - size n
+
+  exact : Kept
+  exact = record { significand = n * 2 ^ moved; exponent = pos 0 -ℤ pos moved }
+
+  exact-same : Same (value exact) (integer n)
+  unfolding exact integer scaled
+  exact-same = same-trans (same-sym (scaled-shift n (pos 0 -ℤ pos moved) moved (sym (-ℤ-+ℤ-cancel (pos 0) (pos moved))))) (record { cross = omega arith })
+
+  exact-kept : IsKept exact
+  unfolding exact
+  exact-kept =
+      let few : size n ≤ 32 = size-le n 32 below in
+      let some : 0 < size n = lt-of-not-le (λ none. not-le-of-lt (lt-of-lt-of-le (size-lt n) (pow-mono none)) above) in
+      let digits : size n + moved ≡ 32 = omega arith in
+      let one-less : size n - 1 + moved ≡ 31 = omega arith in
+      record {
+        form = inr (record {
+          least = omega (arith, ap (λ k. 2 ^ k) one-less, pow-add 2 (size n - 1) moved, mul-le-mul-right (2 ^ moved) (size-reaches n (size n - 1) (omega arith)));
+          below = omega (arith, ap (λ k. 2 ^ k) digits, pow-add 2 (size n) moved, mul-lt-mul-of-pos-right (size-lt n) (pow-pos moved));
+        });
+      }
+
+pub integer-exact : (side : Side) (n : ℕ) → n < 2 ^ 32 → Same (value (ofInteger side n)) (integer n)
+unfolding ofInteger integer
+integer-exact side n l = elim (eq-zero-or-pos n) [
+  | inl none ↦ rw (round-nought side (integer n) none) (nought-same (integer n) none)
+  | inr above ↦ rw (← round-kept side (exact-kept n above l) (exact-same n above l)) (exact-same n above l)
+]

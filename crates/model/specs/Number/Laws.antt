@@ -1,9 +1,10 @@
 -- Laws of finite sums, binomial counts and triangle numbers.
 -- Assumes nothing.
-use Prim.Native.Nat.{ℕ, zero, suc, _+_, _*_, _-_, _≤_, _<_, suc-le-suc}
+use Prim.Native.Nat.{ℕ, zero, suc, _+_, _*_, _-_, _^_, _≤_, _<_, suc-le-suc}
 use mathlib.Core.Path.{_≡_, refl, sym, _∙_, ap, ap₂}
-use native.Mathlib.Nat.{le-step, le-of-suc-le-suc, le-of-eq, le-antisymm, lt-suc-self, add-zero, zero-add, add-suc, suc-add, add-sub-of-le, add-mul, mul-add, mul-left-comm, mul-le-mul}
+use native.Mathlib.Nat.{le-step, le-of-suc-le-suc, le-of-eq, le-antisymm, lt-suc-self, add-zero, zero-add, add-suc, suc-add, add-sub-of-le, add-mul, mul-add, mul-left-comm, mul-le-mul, pow-succ'}
 use native.Mathlib.Omega.{arith}
+use lib.Pow.{pow-pos}
 use Rattle.model.specs.Number.{sum, sumBetween, choose, factorial, triangle, binomialSum}
 
 -- ---- sums
@@ -85,6 +86,12 @@ choose-past zero zero l = omega arith
 choose-past (suc n) zero l = omega arith
 choose-past zero (suc i) l = refl
 choose-past (suc n) (suc i) l = omega (arith, choose-past n i (omega arith), choose-past n (suc i) (omega arith))
+
+pub choose-at-most : (n i : ℕ) → choose n i ≤ 2 ^ n
+unfolding choose
+choose-at-most n zero = pow-pos n
+choose-at-most zero (suc i) = omega arith
+choose-at-most (suc n) (suc i) = rw (pow-succ' 2 n) (omega (arith, choose-at-most n i, choose-at-most n (suc i)))
 
 -- (i+1) × C(n+1,i+1) = (n+1) × C(n,i)
 pub choose-absorb : (n i : ℕ) → suc i * choose (suc n) (suc i) ≡ suc n * choose n i

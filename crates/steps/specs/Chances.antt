@@ -1,0 +1,47 @@
+-- Steps 4 to 6: chances, tails and tranche losses in kept numbers, for one side, from a row of entries that bound P(0,n) to P(n,n), whatever model they
+-- come from. Each product, sum and quotient is rounded once.
+-- Assumes nothing.
+use Prim.Native.Nat.{ℕ, zero, suc, _+_, _-_, _*_, _<_}
+use Rattle.model.specs.Number.{choose}
+use Rattle.model.specs.Chances.{lossUnits}
+use Rattle.kept.specs.declared.Kept.{Kept}
+use Rattle.kept.specs.declared.Side.{Side}
+use Rattle.kept.specs.Rounding.{nought, ofInteger, roundedProduct, roundedSum, roundedQuotient}
+pub mod Laws
+
+module _ (side : Side) where
+  -- f 0 + f 1 + … + f (m − 1), starting from zero and added in this order.
+  unfoldable pub keptTotal : (ℕ → Kept) → ℕ → Kept
+  keptTotal f zero = nought
+  keptTotal f (suc m) = roundedSum side (keptTotal f m) (f m)
+
+  module _ (n : ℕ) where
+    -- Step 4: the chance of j defaults in any order. C(n,j) is worked out exactly and rounded, then multiplied by entry j.
+    unfoldable pub keptChance : (j : ℕ) (entry : Kept) → Kept
+    keptChance j entry = roundedProduct side (ofInteger side (choose n j)) entry
+
+    module _ (c : ℕ → Kept) where
+      -- Step 5: the tail at k. Starting from zero, the chances c of n, n − 1, … down to k defaults are added.
+      unfoldable pub keptTail : ℕ → Kept
+      keptTail k = keptTotal (λ i. c (n - i)) (suc n - k)
+
+      module _ (R A B : ℕ) where
+        -- Step 6: the product of the chance of X defaults and its loss units. The units are below 2^32, so that they are a kept number as they are.
+        unfoldable pub keptTerm : ℕ → Kept
+        keptTerm X = roundedProduct side (c X) (ofInteger side (lossUnits n R A B X))
+
+        -- Starting from zero, the products are added for X = 0 up to n; the total is divided by (B − A) × n.
+        unfoldable pub keptLoss : 0 < (B - A) * n → Kept
+        keptLoss wide = roundedQuotient side (keptTotal keptTerm (suc n)) ((B - A) * n) wide
+
+-- How many parts in 2^31 a chance is away, from entries that are b away: the count of orders and the product are rounded.
+unfoldable pub chanceBudget : ℕ → ℕ
+chanceBudget b = b + 2
+
+-- A tail, from chances of 0 to n defaults that are b away: at most n + 1 sums.
+unfoldable pub tailBudget : (n b : ℕ) → ℕ
+tailBudget n b = b + suc n
+
+-- A tranche loss, from such chances: a product for each, n + 1 sums, a quotient.
+unfoldable pub lossBudget : (n b : ℕ) → ℕ
+lossBudget n b = b + 1 + suc n + 1

@@ -1,0 +1,56 @@
+-- The printed column, in units, from the chances of the low side.
+-- Assumes nothing.
+use Prim.Native.Nat.{ℕ, zero, suc, _+_, _-_, _*_, _/_, _≤_}
+use mathlib.Core.Path.{_≡_}
+use Rattle.model.specs.Number.{sum}
+use Rattle.model.specs.Fraction.{Fraction, AtMost, Less, integer, plus, times}
+use Rattle.model.specs.Chances.{Chances, chance, tail}
+use Rattle.kept.specs.declared.Kept.{Kept}
+use Rattle.kept.specs.declared.Side.the-variants.{Low}
+use Rattle.kept.specs.Rounding.{value}
+use Rattle.steps.specs.Chances.{keptTail}
+pub mod Laws
+
+-- A unit (the scope paper's term) is one part in 100,000 of certainty.
+unfoldable pub unitsOfCertainty : ℕ
+unitsOfCertainty = 100000
+
+-- x in units, rounded down.
+unfoldable pub inUnits : Kept → ℕ
+inUnits x = unitsOfCertainty * value x .num / value x .den
+
+module _ (n : ℕ) (c : ℕ → Kept) where
+  -- The printed tail at k: 100,000 times the low tail, rounded down; at 0 it is 100,000.
+  unfoldable pub printedTail : ℕ → ℕ
+  printedTail zero = unitsOfCertainty
+  printedTail (suc k) = inUnits (keptTail Low n c (suc k))
+
+  -- Row k: its tail less the tail at k + 1. The tail past n is zero, so that row n is its own tail.
+  unfoldable pub printedRow : ℕ → ℕ
+  printedRow k = printedTail k - printedTail (suc k)
+
+-- A fraction in units.
+unfoldable pub units : Fraction → Fraction
+units x = times (integer unitsOfCertainty) x
+
+-- What is used of a printed tail t, however it is rounded: it does not grow; in units it is at most `over` above the exact tail and less than `under` below
+-- it; at 0 it is 100,000; past n it is zero.
+pub record PrintsTails (over under : Fraction) (r : Chances) (t : ℕ → ℕ) : Type 0 where
+  pub falls : (k : ℕ) → t (suc k) ≤ t k
+  pub at-most : (k : ℕ) → AtMost (integer (t k)) (plus (units (tail r k)) over)
+  pub more-than : (k : ℕ) → Less (units (tail r k)) (plus (integer (t k)) under)
+  pub at-zero : t 0 ≡ unitsOfCertainty
+  pub past : t (suc (r .assets)) ≡ 0
+
+-- x and y are less than `off` apart.
+pub record Within (off x y : Fraction) : Type 0 where
+  pub not-above : Less x (plus y off)
+  pub not-below : Less y (plus x off)
+
+-- Rows of a column printed from tails t: no row is below zero, each being what its tail has more than the next; row n is its own tail; rows 0 to n add to
+-- exactly 100,000; each is less than `off` units from the exact chance.
+pub record PrintsColumn (off : Fraction) (r : Chances) (t rows : ℕ → ℕ) : Type 0 where
+  pub difference : (k : ℕ) → rows k + t (suc k) ≡ t k
+  pub last : rows (r .assets) ≡ t (r .assets)
+  pub total : sum (suc (r .assets)) rows ≡ unitsOfCertainty
+  pub near : (k : ℕ) → k ≤ r .assets → Within off (integer (rows k)) (units (chance r k))

@@ -1,0 +1,6 @@
+pub mod Rows
+pub mod Chances
+pub mod Column
+pub mod Loss
+pub mod Enclosure
+pub mod Exponents

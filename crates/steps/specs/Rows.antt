@@ -1,0 +1,55 @@
+-- Steps 1 to 3: the rows of kept numbers that bound P(j,k), for one side, from the default probability p and the correlation ρ in basis points. Each
+-- product and each sum is rounded once. With a = 1 − p and q = 1 − ρ.
+-- Assumes nothing.
+use Prim.Native.Nat.{ℕ, zero, suc, _*_}
+use mathlib.Core.Bool.{cond}
+use lib.Dec.{ltb}
+use Rattle.model.specs.Number.{triangle}
+use Rattle.model.specs.Fraction.{complement}
+use Rattle.model.specs.Passes.{passed}
+use Rattle.kept.specs.declared.Kept.{Kept}
+use Rattle.kept.specs.declared.Side.{Side}
+use Rattle.kept.specs.Rounding.{unity, ofBasisPoints, roundedProduct, roundedSum}
+pub mod Laws
+
+module _ (side : Side) where
+  -- Step 1: p, a, ρ and q are `constant` of p, complement p, ρ and complement ρ, whole basis points over 10,000.
+  unfoldable pub constant : ℕ → Kept
+  constant x = ofBasisPoints side x
+
+  module _ (p ρ : ℕ) where
+    -- Step 2: p_(k+1). p_1 is p; each next is the product of the one before and q, then the sum with ρ.
+    unfoldable pub keptConditional : ℕ → Kept
+    keptConditional zero = constant p
+    keptConditional (suc k) = roundedSum side (roundedProduct side (keptConditional k) (constant (complement ρ))) (constant ρ)
+
+    -- m_(k+1): m_1 is p_1; each next is the product of the one before and its p.
+    unfoldable pub keptJoint : ℕ → Kept
+    keptJoint zero = keptConditional zero
+    keptJoint (suc k) = roundedProduct side (keptJoint k) (keptConditional (suc k))
+
+    -- q^j, starting from one.
+    unfoldable pub keptPower : ℕ → Kept
+    keptPower zero = unity
+    keptPower (suc j) = roundedProduct side (keptPower j) (constant (complement ρ))
+
+    -- g_j: the product of a and q^j.
+    unfoldable pub keptWeight : ℕ → Kept
+    keptWeight j = roundedProduct side (constant (complement p)) (keptPower j)
+
+    -- Step 3, one entry of a pass: old entry j, plus the product of ρ and old entry j + 1.
+    unfoldable pub keptPassStep : Kept → Kept → Kept
+    keptPassStep x y = roundedSum side x (roundedProduct side (constant ρ) y)
+
+    -- Entry j of row k. Row 0 is the single number one. Row k + 1 starts with the k + 1 entries of row k; after its passes 1 to k, entry j for j up to
+    -- k is multiplied by g_j, and entry k + 1 is m_(k+1).
+    unfoldable pub keptRow : ℕ → ℕ → Kept
+    keptRow zero j = unity
+    keptRow (suc k) j =
+        cond (ltb j (suc k))
+        (roundedProduct side (passed keptPassStep (suc k) k (keptRow k) j) (keptWeight j))
+        (keptJoint k)
+
+-- How many parts in 2^31 an entry of row k can be away from its exact value: 3 × T(k).
+unfoldable pub rowBudget : ℕ → ℕ
+rowBudget k = 3 * triangle k
