@@ -4,3 +4,4 @@ pub mod Column
 pub mod Loss
 pub mod Enclosure
 pub mod Exponents
+pub mod Pool

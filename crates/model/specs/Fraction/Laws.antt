@@ -1,9 +1,9 @@
 -- Laws of fractions and basis points.
 -- Assumes nothing.
-use Prim.Native.Nat.{ℕ, suc, _+_, _*_, _≤_, _<_}
+use Prim.Native.Nat.{ℕ, _+_, _*_, _^_, _≤_, _<_}
 use mathlib.Core.Path.{_≡_, ap}
 use native.Mathlib.Nat.{add-sub-of-le, mul-le-mul, mul-le-mul-right, mul-lt-mul-of-pos-right}
-use native.Mathlib.Nat.{eq-of-mul-eq-mul-right, le-of-mul-le-mul-right, lt-of-mul-lt-mul-right, pow-succ'}
+use native.Mathlib.Nat.{eq-of-mul-eq-mul-right, le-of-mul-le-mul-right, lt-of-mul-lt-mul-right}
 use native.Mathlib.Omega.{arith}
 use lib.Pow.{pow-add}
 use Rattle.model.specs.Fraction.{Fraction, Same, AtMost, Less, plus, times, divided, whole, complement, over}
@@ -89,6 +89,11 @@ pub complement-law : {x : ℕ} → x ≤ whole → x + complement x ≡ whole
 unfolding complement
 complement-law l = add-sub-of-le l
 
+-- n / 10,000^t by another number of powers.
+pub over-same : (x y t u : ℕ) → x * whole ^ u ≡ y * whole ^ t → Same (over x t) (over y u)
+unfolding over
+over-same x y t u e = record { cross = e }
+
 pub over-times : (x y t u : ℕ) → Same (times (over x t) (over y u)) (over (x * y) (t + u))
 unfolding over times
 over-times x y t u = record { cross = ap (λ d. x * y * d) (pow-add whole t u) }
@@ -96,8 +101,3 @@ over-times x y t u = record { cross = ap (λ d. x * y * d) (pow-add whole t u) }
 pub over-plus : (x y t : ℕ) → Same (plus (over x t) (over y t)) (over (x + y) t)
 unfolding over plus
 over-plus x y t = omega arith
-
--- One more power of 10,000 above and below.
-pub over-more : (x t : ℕ) → Same (over x t) (over (whole * x) (suc t))
-unfolding over
-over-more x t = record { cross = rw (pow-succ' whole t) (omega arith) }

@@ -1,52 +1,105 @@
 -- How far chances, tails and tranche losses are from their exact values, for a row of chances in general.
 -- Assumes nothing.
 use Prim.Native.Nat.{ℕ, zero, suc, _+_, _*_, _-_, _^_, _≤_, _<_}
+use mathlib.Core.Path.{_≡_, ap}
+use native.Mathlib.Decide.{decLe}
+use native.Mathlib.Nat.{suc-sub-suc, le-refl, lt-of-le-of-lt, mul-le-mul-right}
+use native.Mathlib.Omega.{arith}
 use Rattle.model.specs.Number.{choose}
-use Rattle.model.specs.Fraction.{Fraction, Same, integer, times}
-use Rattle.model.specs.Chances.{Chances, share, chance, tail, lossUnits, lossNumerator, expectedLoss}
+use Rattle.model.specs.Fraction.{Fraction, Same, integer, plus, times, divided, whole}
+use Rattle.model.specs.Chances.{Chances, share, chance, tailNumerator, tail, lossUnits, lossNumerator, expectedLoss}
+use Rattle.model.specs.Chances.Laws.{tail-next, tail-past, loss-none, loss-next, loss-units-at-most}
 use Rattle.kept.specs.declared.Kept.{Kept}
 use Rattle.kept.specs.declared.Side.{Side}
 use Rattle.kept.specs.declared.Side.the-variants.{Low, High}
 use Rattle.kept.specs.Accuracy.{Fine}
-use Rattle.steps.specs.Enclosure.{Enclosed, Made, Bounded}
+use Rattle.kept.specs.Accuracy.Laws.{bound-exact, fine-weaken}
+use Rattle.kept.specs.Rounding.{ofInteger}
+use Rattle.kept.specs.Rounding.Laws.{integer-is, integer-exact}
+use Rattle.steps.specs.Enclosure.{Made, Bounded, ChancesEnclosed}
+use Rattle.steps.specs.Enclosure.Laws.{made-enclosed, made-weaken, made-same, made-nought, made-integer, made-product, made-sum, made-quotient}
 use Rattle.steps.specs.Chances.{keptTotal, keptChance, keptTail, keptTerm, keptLoss, chanceBudget, tailBudget, lossBudget}
 
 -- Step 4, for any exact value v of entry j.
 pub chance-made : {side : Side} {b : ℕ} {entry : Kept} {v : Fraction} (n j : ℕ)
     → Made side b entry v → Made side (chanceBudget b) (keptChance side n j entry) (times (integer (choose n j)) v)
-chance-made n j m = ?chance
+unfolding chanceBudget keptChance
+chance-made {side} n j m = made-weaken (omega arith) (made-product (made-integer side (choose n j)) m)
+
+-- A total of shares of one row: x 0 = 0 and x (m + 1) = x m + t m up to the last, each t i made within b parts.
+module _ (side : Side) {b : ℕ} (r : Chances) (f : ℕ → Kept) (x t : ℕ → ℕ) (last : ℕ) where
+  total-made : x 0 ≡ 0 → ((i : ℕ) → i < last → x (suc i) ≡ x i + t i) → ((i : ℕ) → i < last → Made side b (f i) (share r (t i)))
+      → (m : ℕ) → m ≤ last → Made side (b + m) (keptTotal side f m) (share r (x m))
+  unfolding keptTotal share plus
+  total-made none next made zero l = made-weaken (omega arith) (made-nought side (share r (x 0)) none)
+  total-made none next made (suc m) l =
+      let before : Made side (b + m) (keptTotal side f m) (share r (x m)) = total-made none next made m (omega arith) in
+      let same : Same (plus (share r (x m)) (share r (t m))) (share r (x (suc m))) =
+      omega (arith, ap (λ z. z * r .denominator * r .denominator) (next m l)) in
+      made-weaken (omega arith) (made-same same (made-sum before (made-weaken (omega arith) (made m l))))
 
 module _ {b : ℕ} {r : Chances} {c : Side → ℕ → Kept} (bounded : Bounded b r c) (side : Side) where
   -- The total of the last m chances.
   pub tail-total-made : (m : ℕ) → m ≤ suc (r .assets)
       → Made side (b + m) (keptTotal side (λ i. c side (r .assets - i)) m) (tail r (suc (r .assets) - m))
-  tail-total-made m l = ?tail-total
+  unfolding tail chance
+  tail-total-made =
+      let n : ℕ = r .assets in
+      total-made side r (λ i. c side (n - i)) (λ m. tailNumerator r (suc n - m)) (λ i. r .numerator (n - i)) (suc n)
+      (tail-past r (omega arith))
+      (λ i l.
+      let here : suc n - i ≡ suc (n - i) = omega arith in
+      rw (here, suc-sub-suc n i) (omega (arith, tail-next r {k = n - i} (omega arith))))
+      (λ i l. bounded .made side (n - i) (omega arith))
 
   pub tail-made : (k : ℕ) → Made side (tailBudget (r .assets) b) (keptTail side (r .assets) (c side) k) (tail r k)
-  tail-made k = ?tail
+  unfolding tailBudget keptTail tail
+  tail-made k =
+      let n : ℕ = r .assets in
+      let reached : tailNumerator r (suc n - (suc n - k)) ≡ tailNumerator r k = elim (decLe k n) [
+        | yes l ↦ let back : suc n - (suc n - k) ≡ k = omega arith in ap (tailNumerator r) back
+        | no l ↦ omega (arith, tail-past r {k = suc n - (suc n - k)} (omega arith), tail-past r {k = k} (omega arith))
+      ] in
+      made-weaken (omega arith) (rw reached at (tail-total-made (suc n - k) (omega arith)))
 
   module _ (R A B : ℕ) (narrow : (B - A) * r .assets < 2 ^ 32) where
     pub term-made : (X : ℕ) → X ≤ r .assets
         → Made side (b + 1) (keptTerm side (r .assets) (c side) R A B X) (share r (r .numerator X * lossUnits (r .assets) R A B X))
-    term-made X l = ?term
+    unfolding keptTerm chance share times integer
+    term-made X l =
+        let units : ℕ = lossUnits (r .assets) R A B X in
+        let exact : Made side 0 (ofInteger side units) (integer units) = record {
+          kept = integer-is side units .kept;
+          bound = bound-exact (integer-exact side units (lt-of-le-of-lt (loss-units-at-most (r .assets) R A B X) narrow));
+        } in
+        made-weaken (omega arith) (made-same (omega arith) (made-product (bounded .made side X l) exact))
 
     pub loss-total-made : (m : ℕ) → m ≤ suc (r .assets)
         → Made side (b + 1 + m) (keptTotal side (keptTerm side (r .assets) (c side) R A B) m) (share r (lossNumerator r R A B m))
-    loss-total-made m l = ?loss-total
+    loss-total-made =
+        let n : ℕ = r .assets in
+        total-made side r (keptTerm side n (c side) R A B) (lossNumerator r R A B) (λ X. r .numerator X * lossUnits n R A B X) (suc n)
+        (loss-none r R A B)
+        (λ i l. loss-next r R A B i)
+        (λ i l. term-made i (omega arith))
 
     pub loss-made : (wide : 0 < (B - A) * r .assets)
         → Made side (lossBudget (r .assets) b) (keptLoss side (r .assets) (c side) R A B wide) (expectedLoss r R A B wide)
-    loss-made wide = ?loss
+    unfolding lossBudget keptLoss expectedLoss share divided
+    loss-made wide = made-quotient ((B - A) * r .assets) wide (loss-total-made (suc (r .assets)) (le-refl (suc (r .assets))))
+
+-- Loss units of a tranche up to 10,000 are whole numbers below 2^32.
+pub narrow-units : (n : ℕ) → whole * n < 2 ^ 32 → (A B : ℕ) → B ≤ whole → (B - A) * n < 2 ^ 32
+narrow-units n few A B B≤1 = let part : B - A ≤ whole = omega arith in lt-of-le-of-lt (mul-le-mul-right n part) few
 
 -- Both bounds of each.
-module _ {g b : ℕ} {r : Chances} {c : Side → ℕ → Kept} (bounded : Bounded b r c) where
-  pub chance-enclosed : Fine g b → {j : ℕ} → j ≤ r .assets → Enclosed g (c Low j) (c High j) (chance r j)
-  chance-enclosed fine {j} l = ?chance-enclosed
-
-  pub tail-enclosed : Fine g (tailBudget (r .assets) b) → (k : ℕ)
-      → Enclosed g (keptTail Low (r .assets) (c Low) k) (keptTail High (r .assets) (c High) k) (tail r k)
-  tail-enclosed fine k = ?tail-enclosed
-
-  pub loss-enclosed : Fine g (lossBudget (r .assets) b) → (R A B : ℕ) → (B - A) * r .assets < 2 ^ 32 → (wide : 0 < (B - A) * r .assets)
-      → Enclosed g (keptLoss Low (r .assets) (c Low) R A B wide) (keptLoss High (r .assets) (c High) R A B wide) (expectedLoss r R A B wide)
-  loss-enclosed fine R A B narrow wide = ?loss-enclosed
+pub chances-enclosed : {g b : ℕ} {r : Chances} {c : Side → ℕ → Kept}
+    → Bounded b r c → whole * r .assets < 2 ^ 32 → Fine g (lossBudget (r .assets) b) → ChancesEnclosed g r c
+unfolding lossBudget tailBudget
+chances-enclosed bounded few fine = record {
+  chances = λ {j} l. made-enclosed (fine-weaken (omega arith) fine) (bounded .made Low j l) (bounded .made High j l);
+  tails = λ k. made-enclosed (fine-weaken (omega arith) fine) (tail-made bounded Low k) (tail-made bounded High k);
+  losses = λ R A B B≤1 wide.
+      let narrow = narrow-units _ few A B B≤1 in
+      made-enclosed fine (loss-made bounded Low R A B narrow wide) (loss-made bounded High R A B narrow wide);
+}

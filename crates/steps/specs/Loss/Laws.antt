@@ -1,28 +1,139 @@
 -- What the answer to a tranche loss says.
 -- Assumes nothing.
-use Prim.Native.Nat.{ℕ, _<_}
-use mathlib.Core.Path.{_≡_}
-use Rattle.model.specs.Fraction.{Fraction, AtMost, Less, certainty}
+use Prim.Native.Nat.{ℕ, suc, _*_, _<_}
+use mathlib.Core.Path.{_≡_, refl}
+use mathlib.Core.Logic.{_⊎_, inl, inr}
+use mathlib.Core.Bool.{Bool, true, false, cond}
+use native.Mathlib.Nat.{mul-pos, mul-le-mul-right, le-of-mul-le-mul-right}
+use native.Mathlib.Omega.{arith}
+use borrow.Author.Tests.{lt-ltb, le-ltb, ne-eqb}
+use lib.Dec.{eqb, lit<, lit≤}
+use lib.IntN.{negsuc}
+use Rattle.model.specs.Fraction.{Fraction, Same, AtMost, Less, integer, plus, times, certainty}
+use Rattle.model.specs.Fraction.Laws.{same-sym, at-most-of-same, at-most-of-less, at-most-trans, at-most-less-trans}
 use Rattle.kept.specs.declared.Kept.{Kept}
-use Rattle.kept.specs.Rounding.{IsKept, value, nought}
-use Rattle.kept.specs.Binary64.{leastShown, toBinary64}
+use Rattle.kept.specs.Rounding.{IsKept, Normal, scaled, value, nought}
+use Rattle.kept.specs.Rounding.Powers.{scaled-shift}
+use Rattle.kept.specs.Binary64.{leastShown, belowShown, toBinary64, IsBinary64}
+use Rattle.kept.specs.Binary64.Laws.{below-shown-yes, below-shown-no, shown-binary64}
 use Rattle.steps.specs.Enclosure.{Enclosed}
-use Rattle.steps.specs.Loss.{LossAnswer, untouched, faint, shown, keptLeastShown, raisedToShown, lossAnswer, Says}
+use Rattle.steps.specs.Loss.{untouched, faint, shown, keptLeastShown, raisedToShown, lossAnswer, Says}
+
+-- ---- 2^−800 as a kept number
+
+least-shown-kept : IsKept keptLeastShown
+unfolding keptLeastShown
+least-shown-kept = record { form = inr (record { least = lit≤ tt; below = lit< tt }) }
+
+pub least-shown-value : Same (value keptLeastShown) leastShown
+unfolding keptLeastShown leastShown
+least-shown-value = same-sym (scaled-shift 1 (negsuc 830) 31 refl)
 
 -- The greater of the two: at or above both, and one of them.
-pub raised-greater : (x : Kept) → (AtMost (value x) (value (raisedToShown x))) × (AtMost leastShown (value (raisedToShown x)))
-raised-greater x = ?raised
+pub raised-greater : (x : Kept)
+    → (AtMost (value x) (value (raisedToShown x)))
+    × (AtMost leastShown (value (raisedToShown x)))
+    × ((raisedToShown x ≡ x) ⊎ (raisedToShown x ≡ keptLeastShown))
+unfolding raisedToShown
+raised-greater x = by-test (belowShown x) refl
+  where
+    by-test : (t : Bool) → belowShown x ≡ t
+        → (AtMost (value x) (value (cond t keptLeastShown x)))
+        × (AtMost leastShown (value (cond t keptLeastShown x)))
+        × ((cond t keptLeastShown x ≡ x) ⊎ (cond t keptLeastShown x ≡ keptLeastShown))
+    by-test true test =
+        let least : AtMost leastShown (value keptLeastShown) = at-most-of-same (same-sym least-shown-value) in
+        (at-most-trans (at-most-of-less (below-shown-yes x test)) least, least, inr refl)
+    by-test false test = (omega arith, below-shown-no x test, inl refl)
 
--- When each answer is given.
+-- ---- when each answer is given
+
 pub answer-untouched : (low high : Kept) → high ≡ nought → lossAnswer low high ≡ untouched
-answer-untouched low high is = ?untouched
+unfolding lossAnswer nought
+answer-untouched low high is = rw is
+
+-- The test for zero of a kept number that is not zero.
+tests-not-zero : {x : Kept} → IsKept x → (x ≡ nought → ⊥) → eqb (x .significand) 0 ≡ false
+tests-not-zero {x} kept not = ne-eqb (x .significand) 0 (λ none. elim (kept .form) [ inl is ↦ not is | inr normal ↦ omega arith ])
 
 pub answer-faint : (low high : Kept) → IsKept high → (high ≡ nought → ⊥) → Less (value low) leastShown → lossAnswer low high ≡ faint (toBinary64 (raisedToShown high))
-answer-faint low high kept not below = ?faint
+unfolding lossAnswer belowShown
+answer-faint low high kept not below = rw (tests-not-zero kept not, lt-ltb _ _ (below .cross))
 
 pub answer-shown : (low high : Kept) → IsKept high → (high ≡ nought → ⊥) → AtMost leastShown (value low) → lossAnswer low high ≡ shown (toBinary64 low) (toBinary64 high)
-answer-shown low high kept not least = ?shown
+unfolding lossAnswer belowShown
+answer-shown low high kept not least = rw (tests-not-zero kept not, le-ltb _ _ (least .cross))
+
+-- ---- what it says
+
+-- A kept number from 2^−800 to two has its value as an f64.
+binary64-to-two : {x : Kept} → IsKept x → AtMost leastShown (value x) → AtMost (value x) (integer 2) → IsBinary64 x (toBinary64 x)
+unfolding integer scaled
+binary64-to-two kept least most = shown-binary64 (record { kept = kept; least = least; below = at-most-less-trans most (record { cross = lit< tt }) })
+
+least-to-two : AtMost (value keptLeastShown) (integer 2)
+unfolding keptLeastShown scaled integer
+least-to-two = record { cross = lit≤ tt }
+
+raised-binary64 : {x : Kept} → IsKept x → AtMost (value x) (integer 2) → IsBinary64 (raisedToShown x) (toBinary64 (raisedToShown x))
+raised-binary64 {x} kept most =
+    let least = raised-greater x .1 in
+    elim (raised-greater x .2) [
+      | inl is ↦ rw is (binary64-to-two kept (rw is at least) most)
+      | inr is ↦ rw is (binary64-to-two least-shown-kept (rw is at least) least-to-two)
+    ]
+
+-- g × high ≤ v + g × low ≤ (1 + g) × v ≤ 2 × g
+high-to-two : {g : ℕ} {low high : Kept} {v : Fraction} → 0 < g → Enclosed g low high v → AtMost v certainty → AtMost (value high) (integer 2)
+unfolding integer certainty plus times
+high-to-two {g} {low} {high} {v} positive enclosed most =
+    let m = value low .den in
+    let k = value high .den in
+    record {
+      cross =
+          le-of-mul-le-mul-right {k = g * v .den * m}
+          (omega (
+            arith,
+            enclosed .distance .cross,
+            mul-le-mul-right (g * k) (enclosed .from-below .cross),
+            mul-le-mul-right (m * k * suc g) (most .cross),
+            mul-le-mul-right (v .den * m * k) positive,
+          ))
+          (mul-pos (mul-pos positive (v .positive)) (value low .positive));
+    }
 
 -- What it says, of an exact loss of at most one between two bounds.
 pub answer-says : {g : ℕ} {low high : Kept} {v : Fraction} → 0 < g → IsKept low → IsKept high → Enclosed g low high v → AtMost v certainty → Says low high v (lossAnswer low high)
-answer-says positive kept-low kept-high enclosed most = ?says
+unfolding integer nought scaled
+answer-says {g} {low} {high} {v} positive kept-low kept-high enclosed most = by-form (kept-high .form)
+  where
+    high-most : AtMost (value high) (integer 2)
+    high-most = high-to-two positive enclosed most
+
+    order : AtMost (value low) (value high)
+    order = at-most-trans (enclosed .from-below) (enclosed .from-above)
+
+    by-test : (high ≡ nought → ⊥) → (t : Bool) → belowShown low ≡ t → Says low high v (lossAnswer low high)
+    by-test not true test =
+        let below = below-shown-yes low test in
+        rw (answer-faint low high kept-high not below) (record {
+          low-below = below;
+          high-not-zero = not;
+          is = raised-binary64 kept-high high-most;
+          from-exact = at-most-trans (enclosed .from-above) (raised-greater high .0);
+          from-least = raised-greater high .1;
+        })
+    by-test not false test =
+        let least = below-shown-no low test in
+        rw (answer-shown low high kept-high not least) (record {
+          low-not-below = least;
+          high-not-zero = not;
+          lower-is = binary64-to-two kept-low least (at-most-trans order high-most);
+          upper-is = binary64-to-two kept-high (at-most-trans least order) high-most;
+        })
+
+    by-form : (high ≡ nought) ⊎ Normal (high .significand) → Says low high v (lossAnswer low high)
+    by-form (inl is) =
+        let none : v .num ≡ 0 = omega (arith, (rw is at (enclosed .from-above)) .cross) in
+        rw (answer-untouched low high is) (record { high-zero = is; low-zero = enclosed .of-zero none .0; exact-zero = omega arith })
+    by-form (inr normal) = by-test (λ is. omega (arith, (rw is at normal) .least)) (belowShown low) refl

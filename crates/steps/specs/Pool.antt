@@ -1,0 +1,38 @@
+-- The steps for a pool of n assets by the correlated binomial model, and what is claimed of them.
+-- Assumes nothing.
+use Prim.Native.Nat.{ℕ, _≤_}
+use Rattle.model.specs.CorrelatedBinomial.{probability, defaults}
+use Rattle.kept.specs.declared.Kept.{Kept}
+use Rattle.kept.specs.declared.Side.{Side}
+use Rattle.kept.specs.declared.Side.the-variants.{Low, High}
+use Rattle.steps.specs.Rows.{keptRow, rowBudget}
+use Rattle.steps.specs.Chances.{keptChance, chanceBudget, lossBudget}
+use Rattle.steps.specs.Enclosure.{Enclosed, ChancesEnclosed}
+use Rattle.steps.specs.Exponents.{RowNumber, ChanceNumber, TotalNumber}
+pub mod Theorems
+pub mod Sheets
+
+-- The largest number of assets.
+unfoldable pub largestPool : ℕ
+largestPool = 64
+
+-- The chances of 0 to n defaults in any order, by steps 1 to 4.
+unfoldable pub keptDefaults : (side : Side) (n p ρ : ℕ) → ℕ → Kept
+keptDefaults side n p ρ j = keptChance side n j (keptRow side p ρ n j)
+
+-- The largest budget that a pool of n assets reaches: that of a tranche loss.
+unfoldable pub poolBudget : ℕ → ℕ
+poolBudget n = lossBudget n (chanceBudget (rowBudget n))
+
+-- Enclosure and distance of all that the steps make for a pool: bounds at most one part in g apart.
+pub record PoolEnclosed (g n p ρ : ℕ) : Type 0 where
+  -- Entry j of row k, with P(j,k) by its closed form.
+  pub entries : {j k : ℕ} → j ≤ k → k ≤ n → Enclosed g (keptRow Low p ρ k j) (keptRow High p ρ k j) (probability p ρ j k)
+  -- Chances, tails and tranche losses.
+  pub row : ChancesEnclosed g (defaults n p ρ) (λ side. keptDefaults side n p ρ)
+
+-- Every number that steps 1 to 6 make for a pool and a tranche.
+pub data PoolNumber (side : Side) (n p ρ R A B : ℕ) : Kept → Type 0 where
+  of-rows : {x : Kept} → RowNumber side n p ρ x → PoolNumber side n p ρ R A B x
+  of-chances : {x : Kept} → ChanceNumber side n (keptRow side p ρ n) x → PoolNumber side n p ρ R A B x
+  of-totals : {x : Kept} → TotalNumber side n (keptDefaults side n p ρ) R A B x → PoolNumber side n p ρ R A B x

@@ -1,0 +1,61 @@
+-- Demands 2 and 3 of the steps, for every pool of 1 to 64 assets, every default probability p and correlation ρ from 0 to 10,000, every recovery R and every
+-- tranche A < B ≤ 10,000.
+-- Assumes nothing.
+use Prim.Native.Nat.{ℕ, _+_, _-_, _*_, _^_, _≤_, _<_}
+use mathlib.Core.Path.{_≡_, refl}
+use native.Mathlib.Omega.{arith}
+use native.Mathlib.Nat.{mul-le-mul, mul-le-mul-left, le-refl, sub-le}
+use lib.Dec.{lit<, lit≤}
+use Rattle.model.specs.Number.{choose, triangle}
+use Rattle.model.specs.Number.Laws.{triangle-mono}
+use Rattle.model.specs.Fraction.{Same, AtMost, whole, integer, times, over, certainty}
+use Rattle.model.specs.Chances.{share, chance, Complete, expectedLoss}
+use Rattle.model.specs.Chances.Laws.{loss-at-most-one}
+use Rattle.model.specs.CorrelatedBinomial.{probability, defaults}
+use Rattle.model.specs.CorrelatedBinomial.Theorems.{defaults-complete}
+use Rattle.kept.specs.declared.Kept.{Kept}
+use Rattle.kept.specs.declared.Side.{Side}
+use Rattle.kept.specs.declared.Side.the-variants.{Low, High}
+use Rattle.kept.specs.Accuracy.{precision, Fine}
+use Rattle.kept.specs.Accuracy.Laws.{fine-weaken}
+use Rattle.steps.specs.Rows.{keptRow, rowBudget}
+use Rattle.steps.specs.Rows.Laws.{entry-made}
+use Rattle.steps.specs.Chances.{keptTail, keptLoss, chanceBudget, tailBudget, lossBudget}
+use Rattle.steps.specs.Chances.Laws.{chance-made, chances-enclosed}
+use Rattle.steps.specs.Enclosure.{Made, Bounded}
+use Rattle.steps.specs.Enclosure.Laws.{made-enclosed, made-same}
+use Rattle.steps.specs.Pool.{largestPool, keptDefaults, poolBudget, PoolEnclosed}
+
+fine-at : Fine 100000 (poolBudget largestPool)
+unfolding largestPool poolBudget lossBudget chanceBudget rowBudget precision triangle
+fine-at = record { positive = lit< tt; small = lit≤ tt }
+
+module _ (n p ρ : ℕ) (p≤1 : p ≤ whole) (ρ≤1 : ρ ≤ whole) where
+  -- The chances that step 4 makes are within 3 × T(n) + 2 parts of the model's.
+  pub defaults-bounded : Bounded (chanceBudget (rowBudget n)) (defaults n p ρ) (λ side. keptDefaults side n p ρ)
+  unfolding keptDefaults defaults chance share probability times integer over
+  defaults-bounded = record {
+    made = λ side j l. made-same (omega arith) (chance-made n j (entry-made side p ρ p≤1 ρ≤1 l));
+  }
+
+  -- The theorem, with the number of assets and the distance left open: where bounds at the pool's budget are at most one part in g apart, all are.
+  pub pool-enclosed : {g : ℕ} → whole * n < 2 ^ 32 → Fine g (poolBudget n) → PoolEnclosed g n p ρ
+  unfolding defaults poolBudget lossBudget chanceBudget rowBudget
+  pool-enclosed {g} few fine = record {
+    entries = λ {j} {k} l m.
+        made-enclosed (fine-weaken (omega (arith, triangle-mono m)) fine) (entry-made Low p ρ p≤1 ρ≤1 l) (entry-made High p ρ p≤1 ρ≤1 l);
+    row = chances-enclosed defaults-bounded few fine;
+  }
+
+  module _ (n≤64 : n ≤ largestPool) where
+    few : whole * n < 2 ^ 32
+    unfolding whole largestPool
+    few = omega arith
+
+    pub fine : Fine 100000 (poolBudget n)
+    unfolding largestPool poolBudget lossBudget chanceBudget rowBudget
+    fine = fine-weaken (omega (arith, triangle-mono n≤64)) fine-at
+
+    -- Demands 2 and 3: both bounds, one part in 100,000.
+    pub demands : PoolEnclosed 100000 n p ρ
+    demands = pool-enclosed few fine
