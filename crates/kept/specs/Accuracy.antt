@@ -7,6 +7,7 @@ use Rattle.kept.specs.declared.Side.{Side}
 use Rattle.kept.specs.declared.Side.the-variants.{Low, High}
 use Rattle.kept.specs.Rounding.{OnSide, value}
 pub mod Laws
+pub mod Exponents
 
 -- Relative errors are counted in parts of 2^31.
 unfoldable pub precision : ℕ

@@ -2,6 +2,7 @@
 -- Assumes nothing.
 use Prim.Native.Nat.{ℕ, zero, suc, _+_, _-_, _*_, _/_, _≤_}
 use mathlib.Core.Path.{_≡_}
+use lib.Dec.{lit<}
 use Rattle.model.specs.Number.{sum}
 use Rattle.model.specs.Fraction.{Fraction, AtMost, Less, integer, plus, times}
 use Rattle.model.specs.Chances.{Chances, chance, tail}
@@ -33,12 +34,12 @@ module _ (n : ℕ) (c : ℕ → Kept) where
 unfoldable pub units : Fraction → Fraction
 units x = times (integer unitsOfCertainty) x
 
--- What is used of a printed tail t, however it is rounded: it does not grow; in units it is at most `over` above the exact tail and less than `under` below
+-- What is used of a printed tail t, however it is rounded: it does not grow; in units it is at most `above` above the exact tail and less than `below` below
 -- it; at 0 it is 100,000; past n it is zero.
-pub record PrintsTails (over under : Fraction) (r : Chances) (t : ℕ → ℕ) : Type 0 where
+pub record PrintsTails (above below : Fraction) (r : Chances) (t : ℕ → ℕ) : Type 0 where
   pub falls : (k : ℕ) → t (suc k) ≤ t k
-  pub at-most : (k : ℕ) → AtMost (integer (t k)) (plus (units (tail r k)) over)
-  pub more-than : (k : ℕ) → Less (units (tail r k)) (plus (integer (t k)) under)
+  pub at-most : (k : ℕ) → AtMost (integer (t k)) (plus (units (tail r k)) above)
+  pub more-than : (k : ℕ) → Less (units (tail r k)) (plus (integer (t k)) below)
   pub at-zero : t 0 ≡ unitsOfCertainty
   pub past : t (suc (r .assets)) ≡ 0
 
@@ -54,3 +55,7 @@ pub record PrintsColumn (off : Fraction) (r : Chances) (t rows : ℕ → ℕ) : 
   pub last : rows (r .assets) ≡ t (r .assets)
   pub total : sum (suc (r .assets)) rows ≡ unitsOfCertainty
   pub near : (k : ℕ) → k ≤ r .assets → Within off (integer (rows k)) (units (chance r k))
+
+-- n / 10
+unfoldable pub tenths : ℕ → Fraction
+tenths n = record { num = n; den = 10; positive = lit< tt }

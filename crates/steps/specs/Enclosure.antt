@@ -1,15 +1,13 @@
 -- What is claimed of two bounds, and of a row of chances of which both bounds are known.
 -- Assumes nothing.
-use Prim.Native.Nat.{ℕ, _-_, _*_, _≤_, _<_}
+use Prim.Native.Nat.{ℕ, _≤_}
 use mathlib.Core.Path.{_≡_}
-use Rattle.model.specs.Fraction.{Fraction, AtMost, integer, plus, times, whole}
-use Rattle.model.specs.Chances.{Chances, chance, tail, expectedLoss}
+use Rattle.model.specs.Fraction.{Fraction, AtMost, integer, plus, times}
+use Rattle.model.specs.Chances.{Chances, chance}
 use Rattle.kept.specs.declared.Kept.{Kept}
 use Rattle.kept.specs.declared.Side.{Side}
-use Rattle.kept.specs.declared.Side.the-variants.{Low, High}
 use Rattle.kept.specs.Rounding.{IsKept, value, nought}
 use Rattle.kept.specs.Accuracy.{Bound}
-use Rattle.steps.specs.Chances.{keptTail, keptLoss}
 pub mod Laws
 
 -- The exact value v lies between the kept numbers low and high, and these are at most one part in g of it apart.
@@ -29,10 +27,3 @@ pub record Made (side : Side) (b : ℕ) (x : Kept) (v : Fraction) : Type 0 where
 -- Chances c of either side, each within b parts of that of the row r.
 pub record Bounded (b : ℕ) (r : Chances) (c : Side → ℕ → Kept) : Type 0 where
   pub made : (side : Side) (j : ℕ) → j ≤ r .assets → Made side b (c side j) (chance r j)
-
--- Both bounds of the chances of a row, of its tails by step 5 and of every tranche loss by step 6, at most one part in g apart.
-pub record ChancesEnclosed (g : ℕ) (r : Chances) (c : Side → ℕ → Kept) : Type 0 where
-  pub chances : {j : ℕ} → j ≤ r .assets → Enclosed g (c Low j) (c High j) (chance r j)
-  pub tails : (k : ℕ) → Enclosed g (keptTail Low (r .assets) (c Low) k) (keptTail High (r .assets) (c High) k) (tail r k)
-  pub losses : (R A B : ℕ) → B ≤ whole → (wide : 0 < (B - A) * r .assets)
-      → Enclosed g (keptLoss Low (r .assets) (c Low) R A B wide) (keptLoss High (r .assets) (c High) R A B wide) (expectedLoss r R A B wide)

@@ -19,7 +19,7 @@ use Rattle.kept.specs.Rounding.Leading.{Adjacent, nought-same}
 use Rattle.kept.specs.Rounding.Laws.{round-rounded, round-nought, round-adjacent}
 use Rattle.kept.specs.Accuracy.{precision, Le, Near, Bound, Fine}
 
-precision-positive : 0 < precision
+pub precision-positive : 0 < precision
 unfolding precision
 precision-positive = lit< tt
 

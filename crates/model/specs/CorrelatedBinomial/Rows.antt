@@ -75,7 +75,7 @@ module _ (p ρ : ℕ) where
 
   module _ (p≤1 : p ≤ whole) (ρ≤1 : ρ ≤ whole) where
     -- 1 − p_(k+1) = a × q^k
-    conditional-complement : (k : ℕ) → conditional p ρ k + complement p * complement ρ ^ k ≡ whole ^ suc k
+    pub conditional-complement : (k : ℕ) → conditional p ρ k + complement p * complement ρ ^ k ≡ whole ^ suc k
     unfolding conditional
     conditional-complement zero = rw (pow-zero (complement ρ), pow-succ' whole 0, pow-zero whole) (omega (arith, complement-law p≤1))
     conditional-complement (suc k) =

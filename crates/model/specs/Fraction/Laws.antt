@@ -26,6 +26,9 @@ same-trans {x} {y} {z} e f = record {
 pub at-most-of-same : {x y : Fraction} → Same x y → AtMost x y
 at-most-of-same e = omega arith
 
+pub at-most-refl : {x : Fraction} → AtMost x x
+at-most-refl = at-most-of-same same-refl
+
 pub at-most-of-less : {x y : Fraction} → Less x y → AtMost x y
 at-most-of-less l = omega arith
 
@@ -62,6 +65,10 @@ pub plus-mono : {x y v w : Fraction} → AtMost x y → AtMost v w → AtMost (p
 unfolding plus
 plus-mono {x} {y} {v} {w} l m =
     omega (arith, mul-le-mul-right (v .den * w .den) (l .cross), mul-le-mul-right (x .den * y .den) (m .cross))
+
+pub plus-more : (x y : Fraction) → AtMost x (plus x y)
+unfolding plus
+plus-more x y = omega arith
 
 pub times-mono : {x y v w : Fraction} → AtMost x y → AtMost v w → AtMost (times x v) (times y w)
 unfolding times

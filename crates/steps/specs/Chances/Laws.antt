@@ -3,20 +3,20 @@
 use Prim.Native.Nat.{ℕ, zero, suc, _+_, _*_, _-_, _^_, _≤_, _<_}
 use mathlib.Core.Path.{_≡_, ap}
 use native.Mathlib.Decide.{decLe}
-use native.Mathlib.Nat.{suc-sub-suc, le-refl, lt-of-le-of-lt, mul-le-mul-right}
+use native.Mathlib.Nat.{suc-sub-suc, le-refl, lt-of-le-of-lt}
 use native.Mathlib.Omega.{arith}
 use Rattle.model.specs.Number.{choose}
-use Rattle.model.specs.Fraction.{Fraction, Same, integer, plus, times, divided, whole}
+use Rattle.model.specs.Fraction.{Fraction, Same, integer, plus, times, divided}
 use Rattle.model.specs.Chances.{Chances, share, chance, tailNumerator, tail, lossUnits, lossNumerator, expectedLoss}
 use Rattle.model.specs.Chances.Laws.{tail-next, tail-past, loss-none, loss-next, loss-units-at-most}
 use Rattle.kept.specs.declared.Kept.{Kept}
 use Rattle.kept.specs.declared.Side.{Side}
 use Rattle.kept.specs.declared.Side.the-variants.{Low, High}
 use Rattle.kept.specs.Accuracy.{Fine}
-use Rattle.kept.specs.Accuracy.Laws.{bound-exact, fine-weaken}
-use Rattle.kept.specs.Rounding.{ofInteger}
-use Rattle.kept.specs.Rounding.Laws.{integer-is, integer-exact}
-use Rattle.steps.specs.Enclosure.{Made, Bounded, ChancesEnclosed}
+use Rattle.kept.specs.Accuracy.Laws.{bound-exact}
+use Rattle.kept.specs.Rounding.{IsKept, ofInteger}
+use Rattle.kept.specs.Rounding.Laws.{quotient-is, integer-is, integer-exact}
+use Rattle.steps.specs.Enclosure.{Enclosed, Made, Bounded}
 use Rattle.steps.specs.Enclosure.Laws.{made-enclosed, made-weaken, made-same, made-nought, made-integer, made-product, made-sum, made-quotient}
 use Rattle.steps.specs.Chances.{keptTotal, keptChance, keptTail, keptTerm, keptLoss, chanceBudget, tailBudget, lossBudget}
 
@@ -25,6 +25,10 @@ pub chance-made : {side : Side} {b : ℕ} {entry : Kept} {v : Fraction} (n j : �
     → Made side b entry v → Made side (chanceBudget b) (keptChance side n j entry) (times (integer (choose n j)) v)
 unfolding chanceBudget keptChance
 chance-made {side} n j m = made-weaken (omega arith) (made-product (made-integer side (choose n j)) m)
+
+pub loss-kept : (side : Side) (n : ℕ) (c : ℕ → Kept) (R A B : ℕ) (wide : 0 < (B - A) * n) → IsKept (keptLoss side n c R A B wide)
+unfolding keptLoss
+loss-kept side n c R A B wide = quotient-is side (keptTotal side (keptTerm side n c R A B) (suc n)) ((B - A) * n) wide .kept
 
 -- A total of shares of one row: x 0 = 0 and x (m + 1) = x m + t m up to the last, each t i made within b parts.
 module _ (side : Side) {b : ℕ} (r : Chances) (f : ℕ → Kept) (x t : ℕ → ℕ) (last : ℕ) where
@@ -88,18 +92,15 @@ module _ {b : ℕ} {r : Chances} {c : Side → ℕ → Kept} (bounded : Bounded 
     unfolding lossBudget keptLoss expectedLoss share divided
     loss-made wide = made-quotient ((B - A) * r .assets) wide (loss-total-made (suc (r .assets)) (le-refl (suc (r .assets))))
 
--- Loss units of a tranche up to 10,000 are whole numbers below 2^32.
-pub narrow-units : (n : ℕ) → whole * n < 2 ^ 32 → (A B : ℕ) → B ≤ whole → (B - A) * n < 2 ^ 32
-narrow-units n few A B B≤1 = let part : B - A ≤ whole = omega arith in lt-of-le-of-lt (mul-le-mul-right n part) few
-
 -- Both bounds of each.
-pub chances-enclosed : {g b : ℕ} {r : Chances} {c : Side → ℕ → Kept}
-    → Bounded b r c → whole * r .assets < 2 ^ 32 → Fine g (lossBudget (r .assets) b) → ChancesEnclosed g r c
-unfolding lossBudget tailBudget
-chances-enclosed bounded few fine = record {
-  chances = λ {j} l. made-enclosed (fine-weaken (omega arith) fine) (bounded .made Low j l) (bounded .made High j l);
-  tails = λ k. made-enclosed (fine-weaken (omega arith) fine) (tail-made bounded Low k) (tail-made bounded High k);
-  losses = λ R A B B≤1 wide.
-      let narrow = narrow-units _ few A B B≤1 in
-      made-enclosed fine (loss-made bounded Low R A B narrow wide) (loss-made bounded High R A B narrow wide);
-}
+module _ {g b : ℕ} {r : Chances} {c : Side → ℕ → Kept} (bounded : Bounded b r c) where
+  pub chance-enclosed : Fine g b → {j : ℕ} → j ≤ r .assets → Enclosed g (c Low j) (c High j) (chance r j)
+  chance-enclosed fine {j} l = made-enclosed fine (bounded .made Low j l) (bounded .made High j l)
+
+  pub tail-enclosed : Fine g (tailBudget (r .assets) b) → (k : ℕ)
+      → Enclosed g (keptTail Low (r .assets) (c Low) k) (keptTail High (r .assets) (c High) k) (tail r k)
+  tail-enclosed fine k = made-enclosed fine (tail-made bounded Low k) (tail-made bounded High k)
+
+  pub loss-enclosed : Fine g (lossBudget (r .assets) b) → (R A B : ℕ) → (B - A) * r .assets < 2 ^ 32 → (wide : 0 < (B - A) * r .assets)
+      → Enclosed g (keptLoss Low (r .assets) (c Low) R A B wide) (keptLoss High (r .assets) (c High) R A B wide) (expectedLoss r R A B wide)
+  loss-enclosed fine R A B narrow wide = made-enclosed fine (loss-made bounded Low R A B narrow wide) (loss-made bounded High R A B narrow wide)

@@ -1,27 +1,187 @@
 -- The three laws of the printed tail, and the column that follows from them alone, for a row of chances in general.
 -- Assumes nothing.
 use Prim.Native.Nat.{ℕ, zero, suc, _+_, _*_, _-_, _≤_, _<_}
-use mathlib.Core.Path.{_≡_}
-use Rattle.model.specs.Fraction.{Fraction, AtMost, integer, plus}
-use Rattle.model.specs.Chances.{Chances, Complete, tail}
+use mathlib.Core.Path.{_≡_, refl, ap}
+use native.Mathlib.Decide.{decLe}
+use native.Mathlib.Nat.{div-mul-le-self, le-div-iff-mul-le, lt-div-mul-add, lt-of-mul-lt-mul-right, mul-le-mul-right, mul-lt-mul-of-pos-right}
+use native.Mathlib.Nat.{mul-pos, mul-zero, sub-self, zero-div}
+use native.Mathlib.Omega.{arith}
+use Rattle.model.specs.Number.{sum}
+use Rattle.model.specs.Fraction.{Fraction, Same, AtMost, Less, certainty, integer, plus, times}
+use Rattle.model.specs.Fraction.Laws.{same-sym, at-most-of-same, at-most-refl, at-most-trans, less-at-most-trans, plus-mono, plus-more, times-mono}
+use Rattle.model.specs.Chances.{Chances, Complete, share, chance, tailNumerator, tail}
+use Rattle.model.specs.Chances.Laws.{tail-next, tail-at-zero, tail-at-most-one}
 use Rattle.kept.specs.declared.Kept.{Kept}
 use Rattle.kept.specs.declared.Side.{Side}
-use Rattle.kept.specs.declared.Side.the-variants.{Low, High}
-use Rattle.kept.specs.Accuracy.{precision}
+use Rattle.kept.specs.declared.Side.the-variants.{Low}
+use Rattle.kept.specs.Rounding.{IsKept, scaled, value, nought}
+use Rattle.kept.specs.Rounding.Laws.{nought-kept, sum-is}
+use Rattle.kept.specs.Accuracy.{precision, Bound}
+use Rattle.kept.specs.Accuracy.Laws.{precision-positive}
 use Rattle.steps.specs.Enclosure.{Bounded}
-use Rattle.steps.specs.Chances.{keptTail, tailBudget}
-use Rattle.steps.specs.Column.{unitsOfCertainty, inUnits, printedTail, printedRow, PrintsTails, Within, PrintsColumn}
+use Rattle.steps.specs.Chances.{keptTotal, keptTail, tailBudget}
+use Rattle.steps.specs.Chances.Laws.{tail-made}
+use Rattle.steps.specs.Column.{unitsOfCertainty, inUnits, printedTail, units, PrintsTails, Within, PrintsColumn}
+
+-- ---- the column
+
+rows-total : (t : ℕ → ℕ) → ((k : ℕ) → t (suc k) ≤ t k) → (m : ℕ) → sum m (λ k. t k - t (suc k)) + t m ≡ t 0
+unfolding sum
+rows-total t falls zero = omega arith
+rows-total t falls (suc m) = omega (arith, falls m, rows-total t falls m)
+
+row-near :
+    {above below : Fraction} {r : Chances} {t : ℕ → ℕ} → PrintsTails above below r t
+    → (row k : ℕ) → row + t (suc k) ≡ t k → k ≤ r .assets → Within (plus above below) (integer row) (units (chance r k))
+unfolding plus times integer units chance tail share
+row-near {above} {below} {r} {t} p row k rows l =
+    let U : ℕ = unitsOfCertainty in
+    let T : ℕ → ℕ = tailNumerator r in
+    let d : ℕ = r .denominator in
+    let w : ℕ = above .den in
+    let m : ℕ = below .den in
+    let of-rows : (row + t (suc k)) * (d * w * m) ≡ t k * (d * w * m) = ap (λ z. z * (d * w * m)) rows in
+    let of-tails : U * T k * (w * m) ≡ U * (r .numerator k + T (suc k)) * (w * m) = ap (λ z. U * z * (w * m)) (tail-next r l) in
+    record {
+      not-above = omega (arith, mul-le-mul-right m (p .at-most k .cross), mul-lt-mul-of-pos-right (p .more-than (suc k) .cross) (above .positive));
+      not-below = omega (arith, mul-le-mul-right m (p .at-most (suc k) .cross), mul-lt-mul-of-pos-right (p .more-than k .cross) (above .positive));
+    }
 
 -- The column of any printed tails.
-pub column-of-tails : {over under : Fraction} {r : Chances} {t : ℕ → ℕ} → PrintsTails over under r t → PrintsColumn (plus over under) r t (λ k. t k - t (suc k))
-column-of-tails p = ?column
+pub column-of-tails : {above below : Fraction} {r : Chances} {t : ℕ → ℕ} → PrintsTails above below r t → PrintsColumn (plus above below) r t (λ k. t k - t (suc k))
+column-of-tails {r} {t} p = record {
+  difference = difference;
+  last = omega (arith, p .past);
+  total = omega (arith, p .past, p .at-zero, rows-total t (p .falls) (suc (r .assets)));
+  near = λ k. row-near p (t k - t (suc k)) k (difference k);
+}
+  where
+    difference : (k : ℕ) → t k - t (suc k) + t (suc k) ≡ t k
+    difference k = omega (arith, p .falls k)
 
 -- A wider distance.
 pub column-weaken : {off off' : Fraction} {r : Chances} {t rows : ℕ → ℕ} → AtMost off off' → PrintsColumn off r t rows → PrintsColumn off' r t rows
-column-weaken l c = ?weaken
+column-weaken l c = record {
+  difference = c .difference;
+  last = c .last;
+  total = c .total;
+  near = λ k in-row. record {
+    not-above = less-at-most-trans (c .near k in-row .not-above) (plus-mono at-most-refl l);
+    not-below = less-at-most-trans (c .near k in-row .not-below) (plus-mono at-most-refl l);
+  };
+}
+
+-- ---- units
+
+integer-order : {q s : ℕ} → AtMost (integer q) (integer s) → q ≤ s
+unfolding integer
+integer-order l = omega arith
+
+units-order : {x y : Fraction} → AtMost x y → AtMost (units x) (units y)
+unfolding units
+units-order l = times-mono at-most-refl l
+
+units-certainty : Same (units certainty) (integer unitsOfCertainty)
+unfolding units times integer certainty
+units-certainty = omega arith
+
+-- The units of x, rounded down, are not above x; one more is above it; none that is not above x is more.
+in-units-at-most : (x : Kept) → AtMost (integer (inUnits x)) (units (value x))
+unfolding inUnits units times integer
+in-units-at-most x = omega (arith, div-mul-le-self (unitsOfCertainty * value x .num) (value x .den))
+
+in-units-next : (x : Kept) → Less (units (value x)) (integer (suc (inUnits x)))
+unfolding inUnits units times integer
+in-units-next x = omega (arith, lt-div-mul-add {a = unitsOfCertainty * value x .num} (value x .positive))
+
+in-units-best : {q : ℕ} (x : Kept) → AtMost (integer q) (units (value x)) → q ≤ inUnits x
+unfolding inUnits units times integer
+in-units-best x l = le-div-iff-mul-le (value x .positive) .1 (omega (arith, l .cross))
+
+in-units-nought : inUnits nought ≡ 0
+unfolding inUnits nought scaled
+in-units-nought = rw (mul-zero, zero-div)
+
+-- ---- low tails
+
+low-total-kept : (f : ℕ → Kept) (m : ℕ) → IsKept (keptTotal Low f m)
+unfolding keptTotal
+low-total-kept f zero = nought-kept
+low-total-kept f (suc m) = sum-is Low (keptTotal Low f m) (f m) .kept
+
+-- One more summand does not lower a low total, since that is a kept number itself.
+low-total-grows : (f : ℕ → Kept) (m : ℕ) → AtMost (value (keptTotal Low f m)) (value (keptTotal Low f (suc m)))
+unfolding keptTotal
+low-total-grows f m =
+    let x : Kept = keptTotal Low f m in
+    sum-is Low x (f m) .best x (low-total-kept f m) (plus-more (value x) (value (f m)))
+
+low-tail-falls : (n : ℕ) (c : ℕ → Kept) (k : ℕ) → AtMost (value (keptTail Low n c (suc k))) (value (keptTail Low n c k))
+unfolding keptTail
+low-tail-falls n c k =
+    let m : ℕ = suc n - suc k in
+    elim (decLe k n) [
+      | yes l ↦ let one-more : suc n - k ≡ suc m = omega arith in rw one-more (low-total-grows (λ i. c (n - i)) m)
+      | no l ↦ let as-many : suc n - k ≡ m = omega arith in rw as-many at-most-refl
+    ]
+
+module _ {N : ℕ} (r : Chances) (c : ℕ → Kept) (low : (k : ℕ) → Bound Low N (keptTail Low (r .assets) c k) (tail r k)) (complete : Complete r) where
+  abbrev low-tail : ℕ → Kept
+  low-tail = keptTail Low (r .assets) c
+
+  low-falls : (k : ℕ) → inUnits (low-tail (suc k)) ≤ inUnits (low-tail k)
+  low-falls k = in-units-best (low-tail k) (at-most-trans (in-units-at-most (low-tail (suc k))) (units-order (low-tail-falls (r .assets) c k)))
+
+  low-past : inUnits (low-tail (suc (r .assets))) ≡ 0
+  unfolding keptTail keptTotal
+  low-past = rw sub-self in-units-nought
+
+  low-at-most : (k : ℕ) → AtMost (integer (inUnits (low-tail k))) (units (tail r k))
+  low-at-most k = at-most-trans (in-units-at-most (low-tail k)) (units-order (low k .order))
+
+  low-at-most-one : (k : ℕ) → AtMost (integer (inUnits (low-tail k))) (integer unitsOfCertainty)
+  low-at-most-one k =
+      at-most-trans (low-at-most k) (at-most-trans (units-order (tail-at-most-one r complete k)) (at-most-of-same units-certainty))
+
+  module _ (below : Fraction) (slack : (precision + unitsOfCertainty * N) * below .den ≤ below .num * precision) where
+    low-more-than : (k : ℕ) → Less (units (tail r k)) (plus (integer (inUnits (low-tail k))) below)
+    unfolding units times plus integer certainty
+    low-more-than k =
+        let U : ℕ = unitsOfCertainty in
+        let B : ℕ = precision in
+        let x : Kept = low-tail k in
+        let v : Fraction = tail r k in
+        let d : ℕ = value x .den in
+        let parts : B ≤ B - N + N = omega arith in
+        let exact : U * v .num * B < (inUnits x * B + B + U * N) * v .den =
+        lt-of-mul-lt-mul-right d
+        (omega (
+          arith,
+          mul-lt-mul-of-pos-right (in-units-next x .cross) (mul-pos (v .positive) precision-positive),
+          mul-le-mul-right U (low k .near .cross),
+          mul-le-mul-right (U * d * N) (tail-at-most-one r complete k .cross),
+          mul-le-mul-right (U * v .num * d) parts,
+        )) in
+        record { cross = lt-of-mul-lt-mul-right B (omega (arith, mul-lt-mul-of-pos-right exact (below .positive), mul-le-mul-right (v .den) slack)) }
+
+    printed-of-low : PrintsTails (integer 0) below r (printedTail (r .assets) c)
+    unfolding printedTail
+    printed-of-low = record {
+      falls = λ k. elim k [ zero ↦ integer-order (low-at-most-one 1) | suc j ↦ low-falls (suc j) ];
+      at-most = λ k. at-most-trans (elim k [ zero ↦ at-zero | suc j ↦ low-at-most (suc j) ]) (plus-more (units (tail r k)) (integer 0));
+      more-than = λ k. elim k [
+        | zero ↦ less-at-most-trans (low-more-than 0) (plus-mono (low-at-most-one 0) at-most-refl)
+        | suc j ↦ low-more-than (suc j)
+      ];
+      at-zero = refl;
+      past = low-past;
+    }
+      where
+        at-zero : AtMost (integer unitsOfCertainty) (units (tail r 0))
+        at-zero = at-most-trans (at-most-of-same (same-sym units-certainty)) (units-order (at-most-of-same (same-sym (tail-at-zero r complete))))
 
 -- The tails of low chances that are b away, rounded down: one unit is lost by that, and 100,000 × budget / 2^31 by the low tail.
-pub printed-tails : {b : ℕ} {r : Chances} {c : Side → ℕ → Kept} {under : Fraction} → Bounded b r c → Complete r
-    → (precision + unitsOfCertainty * tailBudget (r .assets) b) * under .den ≤ under .num * precision
-    → PrintsTails (integer 0) under r (printedTail (r .assets) (c Low))
-printed-tails bounded complete slack = ?tails
+pub printed-tails : {b : ℕ} {r : Chances} {c : Side → ℕ → Kept} {below : Fraction} → Bounded b r c → Complete r
+    → (precision + unitsOfCertainty * tailBudget (r .assets) b) * below .den ≤ below .num * precision
+    → PrintsTails (integer 0) below r (printedTail (r .assets) (c Low))
+printed-tails {r} {c} {below} bounded complete slack = printed-of-low r (c Low) (λ k. tail-made bounded Low k .bound) complete below slack

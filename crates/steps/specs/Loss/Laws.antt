@@ -1,6 +1,6 @@
 -- What the answer to a tranche loss says.
 -- Assumes nothing.
-use Prim.Native.Nat.{ℕ, suc, _*_, _<_}
+use Prim.Native.Nat.{ℕ, suc, _-_, _*_, _<_}
 use mathlib.Core.Path.{_≡_, refl}
 use mathlib.Core.Logic.{_⊎_, inl, inr}
 use mathlib.Core.Bool.{Bool, true, false, cond}
@@ -11,11 +11,16 @@ use lib.Dec.{eqb, lit<, lit≤}
 use lib.IntN.{negsuc}
 use Rattle.model.specs.Fraction.{Fraction, Same, AtMost, Less, integer, plus, times, certainty}
 use Rattle.model.specs.Fraction.Laws.{same-sym, at-most-of-same, at-most-of-less, at-most-trans, at-most-less-trans}
+use Rattle.model.specs.Chances.{Chances, Complete, expectedLoss}
+use Rattle.model.specs.Chances.Laws.{loss-at-most-one}
 use Rattle.kept.specs.declared.Kept.{Kept}
+use Rattle.kept.specs.declared.Side.the-variants.{Low, High}
 use Rattle.kept.specs.Rounding.{IsKept, Normal, scaled, value, nought}
 use Rattle.kept.specs.Rounding.Powers.{scaled-shift}
 use Rattle.kept.specs.Binary64.{leastShown, belowShown, toBinary64, IsBinary64}
 use Rattle.kept.specs.Binary64.Laws.{below-shown-yes, below-shown-no, shown-binary64}
+use Rattle.steps.specs.Chances.{keptLoss}
+use Rattle.steps.specs.Chances.Laws.{loss-kept}
 use Rattle.steps.specs.Enclosure.{Enclosed}
 use Rattle.steps.specs.Loss.{untouched, faint, shown, keptLeastShown, raisedToShown, lossAnswer, Says}
 
@@ -137,3 +142,11 @@ answer-says {g} {low} {high} {v} positive kept-low kept-high enclosed most = by-
         let none : v .num ≡ 0 = omega (arith, (rw is at (enclosed .from-above)) .cross) in
         rw (answer-untouched low high is) (record { high-zero = is; low-zero = enclosed .of-zero none .0; exact-zero = omega arith })
     by-form (inr normal) = by-test (λ is. omega (arith, (rw is at normal) .least)) (belowShown low) refl
+
+-- The tranche losses of a row of chances in general.
+pub tranche-says : {g : ℕ} → 0 < g → (r : Chances) (low high : ℕ → Kept) → Complete r → (R A B : ℕ) (wide : 0 < (B - A) * r .assets)
+    → Enclosed g (keptLoss Low (r .assets) low R A B wide) (keptLoss High (r .assets) high R A B wide) (expectedLoss r R A B wide)
+    → Says (keptLoss Low (r .assets) low R A B wide) (keptLoss High (r .assets) high R A B wide) (expectedLoss r R A B wide)
+        (lossAnswer (keptLoss Low (r .assets) low R A B wide) (keptLoss High (r .assets) high R A B wide))
+tranche-says positive r low high complete R A B wide enclosed =
+    answer-says positive (loss-kept Low (r .assets) low R A B wide) (loss-kept High (r .assets) high R A B wide) enclosed (loss-at-most-one r R A B wide complete)

@@ -4,11 +4,11 @@
 use Prim.Native.Nat.{ℕ, _+_, _-_, _*_, _^_, _≤_, _<_}
 use mathlib.Core.Path.{_≡_, refl}
 use native.Mathlib.Omega.{arith}
-use native.Mathlib.Nat.{mul-le-mul, mul-le-mul-left, le-refl, sub-le}
+use native.Mathlib.Nat.{lt-of-le-of-lt, mul-le-mul-right}
 use lib.Dec.{lit<, lit≤}
 use Rattle.model.specs.Number.{choose, triangle}
 use Rattle.model.specs.Number.Laws.{triangle-mono}
-use Rattle.model.specs.Fraction.{Same, AtMost, whole, integer, times, over, certainty}
+use Rattle.model.specs.Fraction.{Same, AtMost, whole, integer, plus, times, over, certainty}
 use Rattle.model.specs.Chances.{share, chance, Complete, expectedLoss}
 use Rattle.model.specs.Chances.Laws.{loss-at-most-one}
 use Rattle.model.specs.CorrelatedBinomial.{probability, defaults}
@@ -21,10 +21,14 @@ use Rattle.kept.specs.Accuracy.Laws.{fine-weaken}
 use Rattle.steps.specs.Rows.{keptRow, rowBudget}
 use Rattle.steps.specs.Rows.Laws.{entry-made}
 use Rattle.steps.specs.Chances.{keptTail, keptLoss, chanceBudget, tailBudget, lossBudget}
-use Rattle.steps.specs.Chances.Laws.{chance-made, chances-enclosed}
+use Rattle.steps.specs.Chances.Laws.{chance-made, chance-enclosed, tail-enclosed, loss-enclosed}
 use Rattle.steps.specs.Enclosure.{Made, Bounded}
 use Rattle.steps.specs.Enclosure.Laws.{made-enclosed, made-same}
-use Rattle.steps.specs.Pool.{largestPool, keptDefaults, poolBudget, PoolEnclosed}
+use Rattle.steps.specs.Column.{unitsOfCertainty, printedTail, printedRow, tenths, PrintsTails, PrintsColumn}
+use Rattle.steps.specs.Column.Laws.{printed-tails, column-of-tails, column-weaken}
+use Rattle.steps.specs.Loss.{lossAnswer, Says}
+use Rattle.steps.specs.Loss.Laws.{tranche-says}
+use Rattle.steps.specs.Pool.{largestPool, keptDefaults, keptPoolTail, keptPoolLoss, poolLoss, poolBudget, PoolEnclosed}
 
 fine-at : Fine 100000 (poolBudget largestPool)
 unfolding largestPool poolBudget lossBudget chanceBudget rowBudget precision triangle
@@ -40,12 +44,18 @@ module _ (n p ρ : ℕ) (p≤1 : p ≤ whole) (ρ≤1 : ρ ≤ whole) where
 
   -- The theorem, with the number of assets and the distance left open: where bounds at the pool's budget are at most one part in g apart, all are.
   pub pool-enclosed : {g : ℕ} → whole * n < 2 ^ 32 → Fine g (poolBudget n) → PoolEnclosed g n p ρ
-  unfolding defaults poolBudget lossBudget chanceBudget rowBudget
+  unfolding defaults poolLoss keptPoolLoss keptPoolTail poolBudget lossBudget tailBudget chanceBudget rowBudget
   pool-enclosed {g} few fine = record {
     entries = λ {j} {k} l m.
         made-enclosed (fine-weaken (omega (arith, triangle-mono m)) fine) (entry-made Low p ρ p≤1 ρ≤1 l) (entry-made High p ρ p≤1 ρ≤1 l);
-    row = chances-enclosed defaults-bounded few fine;
+    chances = chance-enclosed defaults-bounded (fine-weaken (omega arith) fine);
+    tails = tail-enclosed defaults-bounded (fine-weaken (omega arith) fine);
+    losses = λ R A B B≤1 wide. loss-enclosed defaults-bounded fine R A B (narrow A B B≤1) wide;
   }
+    where
+      -- The loss units are whole numbers below 2^32.
+      narrow : (A B : ℕ) → B ≤ whole → (B - A) * n < 2 ^ 32
+      narrow A B B≤1 = let part : B - A ≤ whole = omega arith in lt-of-le-of-lt (mul-le-mul-right n part) few
 
   module _ (n≤64 : n ≤ largestPool) where
     few : whole * n < 2 ^ 32
@@ -56,6 +66,23 @@ module _ (n p ρ : ℕ) (p≤1 : p ≤ whole) (ρ≤1 : ρ ≤ whole) where
     unfolding largestPool poolBudget lossBudget chanceBudget rowBudget
     fine = fine-weaken (omega (arith, triangle-mono n≤64)) fine-at
 
-    -- Demands 2 and 3: both bounds, one part in 100,000.
+    -- Both bounds of every entry, chance, tail and tranche loss, at most one part in 100,000 apart.
     pub demands : PoolEnclosed 100000 n p ρ
     demands = pool-enclosed few fine
+
+    -- The printed tails: not above the exact ones, and less than 1.3 units below them.
+    pub printed : PrintsTails (integer 0) (tenths 13) (defaults n p ρ) (printedTail n (keptDefaults Low n p ρ))
+    unfolding defaults tailBudget chanceBudget rowBudget tenths precision unitsOfCertainty largestPool triangle
+    printed = printed-tails defaults-bounded (defaults-complete p ρ p≤1 ρ≤1 n) (omega (arith, triangle-mono n≤64))
+
+    -- The printed rows: they add to 100,000, none is below zero, each is less than 1.5 units from the exact chance.
+    pub column : PrintsColumn (tenths 15) (defaults n p ρ) (printedTail n (keptDefaults Low n p ρ)) (printedRow n (keptDefaults Low n p ρ))
+    unfolding printedRow plus integer tenths
+    column = column-weaken (record { cross = lit≤ tt }) (column-of-tails printed)
+
+    -- The answer to a tranche loss says what holds.
+    pub answer : (R A B : ℕ) → B ≤ whole → (wide : 0 < (B - A) * n)
+        → Says (keptPoolLoss Low n p ρ R A B wide) (keptPoolLoss High n p ρ R A B wide) (poolLoss n p ρ R A B wide)
+            (lossAnswer (keptPoolLoss Low n p ρ R A B wide) (keptPoolLoss High n p ρ R A B wide))
+    unfolding defaults poolLoss keptPoolLoss
+    answer R A B B≤1 wide = tranche-says (lit< tt) (defaults n p ρ) (keptDefaults Low n p ρ) (keptDefaults High n p ρ) (defaults-complete p ρ p≤1 ρ≤1 n) R A B wide (demands .losses R A B B≤1 wide)
