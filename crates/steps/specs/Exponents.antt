@@ -51,9 +51,9 @@ pub data TotalNumber (side : Side) (n : ℕ) (c : ℕ → Kept) (R A B : ℕ) : 
   is-total : (m : ℕ) → m ≤ suc n → TotalNumber side n c R A B (keptTotal side (keptTerm side n c R A B) m)
   is-loss : (wide : 0 < (B - A) * n) → TotalNumber side n c R A B (keptLoss side n c R A B wide)
 
--- What is asked of the number of assets: no number is as much as half away from its exact value, the powers of 10,000 that exact values have below them have
--- less than 79,000 binary digits, and no value reaches 2^100.
+-- What is asked of the number of assets: no number is as much as half away from its exact value, the denominators of exact values have no more than 79,968
+-- binary digits, and there are no more than 100 passes.
 pub record Room (n : ℕ) : Type 0 where
-  pub parts : (rowBudget (suc n) + n + 10) * 2 ≤ precision
-  pub digits : 14 * (triangle (suc n) + suc n) ≤ 79000
-  pub values : n ≤ 100
+  pub parts : (rowBudget (suc n) + 2) * 2 ≤ precision
+  pub digits : 14 * (triangle (suc n) + 2) ≤ 79968
+  pub passes : n ≤ 100

@@ -70,7 +70,7 @@ once l = omega arith
 -- ---- steps 1 to 3
 
 -- 10,000 is below 2^14.
-whole-digits : (t : ℕ) → whole ^ t ≤ 2 ^ (14 * t)
+pub whole-digits : (t : ℕ) → whole ^ t ≤ 2 ^ (14 * t)
 unfolding whole
 whole-digits zero = lit≤ tt
 whole-digits (suc t) =
@@ -83,11 +83,11 @@ complement-at-most x = sub-le whole x
 
 module _ (side : Side) {n p ρ : ℕ} (room : Room n) (p≤1 : p ≤ whole) (ρ≤1 : ρ ≤ whole) where
   -- A value of at most 2^c over a power of 10,000.
-  over-ranged : {b N : ℕ} {x : Kept} (t c : ℕ) → Made side b x (over N t) → b ≤ rowBudget (suc n) → t ≤ triangle (suc n) + suc n
+  over-ranged : {b N : ℕ} {x : Kept} (t c : ℕ) → Made side b x (over N t) → b ≤ rowBudget (suc n) → t ≤ triangle (suc n) + 1
       → N ≤ whole ^ t * 2 ^ c → c ≤ n → Ranged x
   unfolding over
   over-ranged t c made parts digits num values =
-      made-ranged made (omega (arith, room .parts)) (14 * t) c (whole-digits t) (omega (arith, room .digits)) num (omega (arith, room .values))
+      made-ranged made (omega (arith, room .parts)) (14 * t) c (whole-digits t) (omega (arith, room .digits)) num (omega (arith, room .passes))
 
   -- One of p, a, ρ and q.
   constant-ranged : {x : ℕ} → x ≤ whole → Ranged (constant side x)

@@ -4,7 +4,7 @@
 use Prim.Native.Nat.{ℕ, _+_, _-_, _*_, _^_, _≤_, _<_}
 use mathlib.Core.Path.{_≡_, refl}
 use native.Mathlib.Omega.{arith}
-use native.Mathlib.Nat.{lt-of-le-of-lt, mul-le-mul-right}
+use native.Mathlib.Nat.{mul-le-mul-right}
 use lib.Dec.{lit<, lit≤}
 use Rattle.model.specs.Number.{choose, triangle}
 use Rattle.model.specs.Number.Laws.{triangle-mono}
@@ -12,7 +12,7 @@ use Rattle.model.specs.Fraction.{Same, AtMost, whole, integer, plus, times, ove
 use Rattle.model.specs.Chances.{share, chance, Complete, expectedLoss}
 use Rattle.model.specs.Chances.Laws.{loss-at-most-one}
 use Rattle.model.specs.CorrelatedBinomial.{probability, defaults}
-use Rattle.model.specs.CorrelatedBinomial.Theorems.{defaults-complete}
+use Rattle.model.specs.CorrelatedBinomial.Theorems.{probability-at-most-one, defaults-complete}
 use Rattle.kept.specs.declared.Kept.{Kept}
 use Rattle.kept.specs.declared.Side.{Side}
 use Rattle.kept.specs.declared.Side.the-variants.{Low, High}
@@ -26,63 +26,84 @@ use Rattle.steps.specs.Enclosure.{Made, Bounded}
 use Rattle.steps.specs.Enclosure.Laws.{made-enclosed, made-same}
 use Rattle.steps.specs.Column.{unitsOfCertainty, printedTail, printedRow, tenths, PrintsTails, PrintsColumn}
 use Rattle.steps.specs.Column.Laws.{printed-tails, column-of-tails, column-weaken}
+use Rattle.steps.specs.Exponents.{Ranged, Room}
+use Rattle.steps.specs.Exponents.Laws.{whole-digits, rows-ranged, chances-ranged, totals-ranged}
 use Rattle.steps.specs.Loss.{lossAnswer, Says}
 use Rattle.steps.specs.Loss.Laws.{tranche-says}
-use Rattle.steps.specs.Pool.{largestPool, keptDefaults, keptPoolTail, keptPoolLoss, poolLoss, poolBudget, PoolEnclosed}
-
-fine-at : Fine 100000 (poolBudget largestPool)
-unfolding largestPool poolBudget lossBudget chanceBudget rowBudget precision triangle
-fine-at = record { positive = lit< tt; small = lit≤ tt }
+use Rattle.steps.specs.Pool.{largestPool, keptDefaults, keptPoolTail, keptPoolLoss, poolLoss, poolBudget, PoolEnclosed, PoolNumber, of-rows, of-chances, of-totals}
 
 module _ (n p ρ : ℕ) (p≤1 : p ≤ whole) (ρ≤1 : ρ ≤ whole) where
-  -- The chances that step 4 makes are within 3 × T(n) + 2 parts of the model's.
+  complete : Complete (defaults n p ρ)
+  complete = defaults-complete p ρ p≤1 ρ≤1 n
+
+  -- The chances that step 4 makes, against the model's.
   pub defaults-bounded : Bounded (chanceBudget (rowBudget n)) (defaults n p ρ) (λ side. keptDefaults side n p ρ)
   unfolding keptDefaults defaults chance share probability times integer over
-  defaults-bounded = record {
-    made = λ side j l. made-same (omega arith) (chance-made n j (entry-made side p ρ p≤1 ρ≤1 l));
-  }
+  defaults-bounded = record { made = λ side j l. made-same (omega arith) (chance-made n j (entry-made side p ρ p≤1 ρ≤1 l)) }
 
-  -- The theorem, with the number of assets and the distance left open: where bounds at the pool's budget are at most one part in g apart, all are.
-  pub pool-enclosed : {g : ℕ} → whole * n < 2 ^ 32 → Fine g (poolBudget n) → PoolEnclosed g n p ρ
-  unfolding defaults poolLoss keptPoolLoss keptPoolTail poolBudget lossBudget tailBudget chanceBudget rowBudget
-  pool-enclosed {g} few fine = record {
-    entries = λ {j} {k} l m.
-        made-enclosed (fine-weaken (omega (arith, triangle-mono m)) fine) (entry-made Low p ρ p≤1 ρ≤1 l) (entry-made High p ρ p≤1 ρ≤1 l);
-    chances = chance-enclosed defaults-bounded (fine-weaken (omega arith) fine);
-    tails = tail-enclosed defaults-bounded (fine-weaken (omega arith) fine);
-    losses = λ R A B B≤1 wide. loss-enclosed defaults-bounded fine R A B (narrow A B B≤1) wide;
-  }
-    where
-      -- The loss units are whole numbers below 2^32.
-      narrow : (A B : ℕ) → B ≤ whole → (B - A) * n < 2 ^ 32
-      narrow A B B≤1 = let part : B - A ≤ whole = omega arith in lt-of-le-of-lt (mul-le-mul-right n part) few
+  -- ---- with the number of assets and the distance left open
+
+  module _ (room : Room n) where
+    -- Loss units are whole numbers below 2^32.
+    narrow : (A B : ℕ) → B ≤ whole → (B - A) * n < 2 ^ 32
+    unfolding whole
+    narrow A B B≤1 = let part : B - A ≤ whole = omega arith in omega (arith, mul-le-mul-right n part, room .passes)
+
+    -- Where two numbers at the pool's budget are at most one part in g apart, all bounds are.
+    pub pool-enclosed : {g : ℕ} → Fine g (poolBudget n) → PoolEnclosed g n p ρ
+    unfolding defaults poolLoss keptPoolLoss keptPoolTail poolBudget lossBudget tailBudget chanceBudget rowBudget
+    pool-enclosed fine = record {
+      entries = λ l m.
+          made-enclosed (fine-weaken (omega (arith, triangle-mono m)) fine) (entry-made Low p ρ p≤1 ρ≤1 l) (entry-made High p ρ p≤1 ρ≤1 l);
+      chances = chance-enclosed defaults-bounded (fine-weaken (omega arith) fine);
+      tails = tail-enclosed defaults-bounded (fine-weaken (omega arith) fine);
+      losses = λ R A B B≤1 wide. loss-enclosed defaults-bounded fine R A B (narrow A B B≤1) wide;
+    }
+
+    pub pool-ranged : (side : Side) (R A B : ℕ) → B ≤ whole → {x : Kept} → PoolNumber side n p ρ R A B x → Ranged x
+    unfolding defaults probability over certainty lossBudget chanceBudget rowBudget triangle
+    pool-ranged side R A B B≤1 (of-rows number) = rows-ranged side room p≤1 ρ≤1 number
+    pool-ranged side R A B B≤1 (of-chances number) =
+        chances-ranged (λ j. probability p ρ j n) (λ j l. entry-made side p ρ p≤1 ρ≤1 l)
+        (λ j l. omega (arith, probability-at-most-one p ρ p≤1 ρ≤1 l .cross)) (λ j l. whole-digits (triangle n))
+        (omega (arith, room .parts)) (omega (arith, room .digits)) (room .passes) number
+    pool-ranged side R A B B≤1 (of-totals number) =
+        totals-ranged defaults-bounded complete side R A B (14 * triangle n) (narrow A B B≤1)
+        (omega (arith, room .parts)) (whole-digits (triangle n)) (omega (arith, room .digits)) number
+
+  -- ---- for 1 to 64 assets
 
   module _ (n≤64 : n ≤ largestPool) where
-    few : whole * n < 2 ^ 32
-    unfolding whole largestPool
-    few = omega arith
+    room : Room n
+    unfolding rowBudget precision largestPool triangle
+    room = let most = triangle-mono n≤64 in record { parts = omega arith; digits = omega arith; passes = omega arith }
 
-    pub fine : Fine 100000 (poolBudget n)
-    unfolding largestPool poolBudget lossBudget chanceBudget rowBudget
-    fine = fine-weaken (omega (arith, triangle-mono n≤64)) fine-at
+    fine : Fine 100000 (poolBudget n)
+    unfolding largestPool poolBudget lossBudget chanceBudget rowBudget precision triangle
+    fine = fine-weaken {m = 6309} (omega (arith, triangle-mono n≤64)) (record { positive = lit< tt; small = lit≤ tt })
 
     -- Both bounds of every entry, chance, tail and tranche loss, at most one part in 100,000 apart.
     pub demands : PoolEnclosed 100000 n p ρ
-    demands = pool-enclosed few fine
+    demands = pool-enclosed room fine
 
-    -- The printed tails: not above the exact ones, and less than 1.3 units below them.
+    -- Every number that the steps make has an exponent from −80,000 to 100.
+    pub exponents : (side : Side) (R A B : ℕ) → B ≤ whole → {x : Kept} → PoolNumber side n p ρ R A B x → Ranged x
+    exponents = pool-ranged room
+
+    -- The printed tails are not above the exact ones and less than 1.3 units below them.
     pub printed : PrintsTails (integer 0) (tenths 13) (defaults n p ρ) (printedTail n (keptDefaults Low n p ρ))
     unfolding defaults tailBudget chanceBudget rowBudget tenths precision unitsOfCertainty largestPool triangle
-    printed = printed-tails defaults-bounded (defaults-complete p ρ p≤1 ρ≤1 n) (omega (arith, triangle-mono n≤64))
+    printed = printed-tails defaults-bounded complete (omega (arith, triangle-mono n≤64))
 
-    -- The printed rows: they add to 100,000, none is below zero, each is less than 1.5 units from the exact chance.
+    -- The printed rows add to 100,000, none is below zero, and each is less than 1.5 units from the exact chance.
     pub column : PrintsColumn (tenths 15) (defaults n p ρ) (printedTail n (keptDefaults Low n p ρ)) (printedRow n (keptDefaults Low n p ρ))
     unfolding printedRow plus integer tenths
     column = column-weaken (record { cross = lit≤ tt }) (column-of-tails printed)
 
-    -- The answer to a tranche loss says what holds.
+    -- What the answer to a tranche loss says.
     pub answer : (R A B : ℕ) → B ≤ whole → (wide : 0 < (B - A) * n)
         → Says (keptPoolLoss Low n p ρ R A B wide) (keptPoolLoss High n p ρ R A B wide) (poolLoss n p ρ R A B wide)
             (lossAnswer (keptPoolLoss Low n p ρ R A B wide) (keptPoolLoss High n p ρ R A B wide))
     unfolding defaults poolLoss keptPoolLoss
-    answer R A B B≤1 wide = tranche-says (lit< tt) (defaults n p ρ) (keptDefaults Low n p ρ) (keptDefaults High n p ρ) (defaults-complete p ρ p≤1 ρ≤1 n) R A B wide (demands .losses R A B B≤1 wide)
+    answer R A B B≤1 wide =
+        tranche-says (lit< tt) (defaults n p ρ) (keptDefaults Low n p ρ) (keptDefaults High n p ρ) complete R A B wide (demands .losses R A B B≤1 wide)
