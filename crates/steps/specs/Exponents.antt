@@ -30,12 +30,12 @@ pub data RowNumber (side : Side) (n p ρ : ℕ) : Kept → Type 0 where
   is-conditional-product : (k : ℕ) → k ≤ n → RowNumber side n p ρ (roundedProduct side (keptConditional side p ρ k) (constant side (complement ρ)))
   is-conditional : (k : ℕ) → k ≤ n → RowNumber side n p ρ (keptConditional side p ρ k)
   is-joint : (k : ℕ) → k ≤ n → RowNumber side n p ρ (keptJoint side p ρ k)
-  is-power : (j : ℕ) → j ≤ n → RowNumber side n p ρ (keptPower side p ρ j)
+  is-power : (j : ℕ) → j ≤ n → RowNumber side n p ρ (keptPower side ρ j)
   is-weight : (j : ℕ) → j ≤ n → RowNumber side n p ρ (keptWeight side p ρ j)
   -- In the row that starts as row k, after s passes: an entry, and its product with ρ.
-  is-passed : (k s j : ℕ) → k ≤ n → j ≤ k → RowNumber side n p ρ (passed (keptPassStep side p ρ) (suc k) s (keptRow side p ρ k) j)
+  is-passed : (k s j : ℕ) → k ≤ n → j ≤ k → RowNumber side n p ρ (passed (keptPassStep side ρ) (suc k) s (keptRow side p ρ k) j)
   is-pass-product : (k s j : ℕ) → k ≤ n → j ≤ k
-      → RowNumber side n p ρ (roundedProduct side (constant side ρ) (passed (keptPassStep side p ρ) (suc k) s (keptRow side p ρ k) j))
+      → RowNumber side n p ρ (roundedProduct side (constant side ρ) (passed (keptPassStep side ρ) (suc k) s (keptRow side p ρ k) j))
   is-entry : (k j : ℕ) → k ≤ n → j ≤ k → RowNumber side n p ρ (keptRow side p ρ k j)
 
 -- Every number that step 4 makes for n assets from the entries of a row.

@@ -17,38 +17,37 @@ module _ (side : Side) where
   unfoldable pub constant : ℕ → Kept
   constant x = ofBasisPoints side x
 
-  module _ (p ρ : ℕ) where
-    -- Step 2: p_(k+1). p_1 is p; each next is the product of the one before and q, then the sum with ρ.
-    unfoldable pub keptConditional : ℕ → Kept
-    keptConditional zero = constant p
-    keptConditional (suc k) = roundedSum side (roundedProduct side (keptConditional k) (constant (complement ρ))) (constant ρ)
+  -- Step 2: p_(k+1). p_1 is p; each next is the product of the one before and q, then the sum with ρ.
+  unfoldable pub keptConditional : (p ρ k : ℕ) → Kept
+  keptConditional p ρ zero = constant p
+  keptConditional p ρ (suc k) = roundedSum side (roundedProduct side (keptConditional p ρ k) (constant (complement ρ))) (constant ρ)
 
-    -- m_(k+1): m_1 is p_1; each next is the product of the one before and its p.
-    unfoldable pub keptJoint : ℕ → Kept
-    keptJoint zero = keptConditional zero
-    keptJoint (suc k) = roundedProduct side (keptJoint k) (keptConditional (suc k))
+  -- m_(k+1). m_1 is p_1; each next is the product of the one before and its p.
+  unfoldable pub keptJoint : (p ρ k : ℕ) → Kept
+  keptJoint p ρ zero = keptConditional p ρ zero
+  keptJoint p ρ (suc k) = roundedProduct side (keptJoint p ρ k) (keptConditional p ρ (suc k))
 
-    -- q^j, starting from one.
-    unfoldable pub keptPower : ℕ → Kept
-    keptPower zero = unity
-    keptPower (suc j) = roundedProduct side (keptPower j) (constant (complement ρ))
+  -- q^j: starting from one, each next is the product of the one before and q.
+  unfoldable pub keptPower : (ρ j : ℕ) → Kept
+  keptPower ρ zero = unity
+  keptPower ρ (suc j) = roundedProduct side (keptPower ρ j) (constant (complement ρ))
 
-    -- g_j: the product of a and q^j.
-    unfoldable pub keptWeight : ℕ → Kept
-    keptWeight j = roundedProduct side (constant (complement p)) (keptPower j)
+  -- g_j: the product of a and q^j.
+  unfoldable pub keptWeight : (p ρ j : ℕ) → Kept
+  keptWeight p ρ j = roundedProduct side (constant (complement p)) (keptPower ρ j)
 
-    -- Step 3, one entry of a pass: old entry j, plus the product of ρ and old entry j + 1.
-    unfoldable pub keptPassStep : Kept → Kept → Kept
-    keptPassStep x y = roundedSum side x (roundedProduct side (constant ρ) y)
+  -- Step 3, one entry of a pass: old entry j, plus the product of ρ and old entry j + 1.
+  unfoldable pub keptPassStep : (ρ : ℕ) → Kept → Kept → Kept
+  keptPassStep ρ x y = roundedSum side x (roundedProduct side (constant ρ) y)
 
-    -- Entry j of row k. Row 0 is the single number one. Row k + 1 starts with the k + 1 entries of row k; after its passes 1 to k, entry j for j up to
-    -- k is multiplied by g_j, and entry k + 1 is m_(k+1).
-    unfoldable pub keptRow : ℕ → ℕ → Kept
-    keptRow zero j = unity
-    keptRow (suc k) j =
-        cond (ltb j (suc k))
-        (roundedProduct side (passed keptPassStep (suc k) k (keptRow k) j) (keptWeight j))
-        (keptJoint k)
+  -- Entry j of row k. Row 0 is the single number one. Row k + 1 starts with the k + 1 entries of row k; after its passes 1 to k, entry j for j up to k
+  -- is multiplied by g_j, and entry k + 1 is m_(k+1).
+  unfoldable pub keptRow : (p ρ k j : ℕ) → Kept
+  keptRow p ρ zero j = unity
+  keptRow p ρ (suc k) j =
+      cond (ltb j (suc k))
+      (roundedProduct side (passed (keptPassStep ρ) (suc k) k (keptRow p ρ k) j) (keptWeight p ρ j))
+      (keptJoint p ρ k)
 
 -- How many parts in 2^31 an entry of row k can be away from its exact value: 3 × T(k).
 unfoldable pub rowBudget : ℕ → ℕ

@@ -204,6 +204,5 @@ bound-distance {n} {g} {x} {y} {v} fine low high =
       }
       | no none ↦
           let empty : c ≡ 0 = omega arith in
-          let nothing : g ≡ 0 = omega (arith, mul-le-mul-left g (mul-pos precision-positive precision-positive), rw empty at (fine .small)) in
-          rw nothing (omega arith)
+          absurd (omega (arith, fine .positive, mul-le-mul-left g (mul-pos precision-positive precision-positive), rw empty at (fine .small)))
     ]

@@ -82,13 +82,21 @@ pub plus-comm : (x y : Fraction) → Same (plus x y) (plus y x)
 unfolding plus
 plus-comm x y = omega arith
 
+-- What keeps the order of two fractions keeps equality.
+mono-same : (f : Fraction → Fraction → Fraction) → ((x y v w : Fraction) → AtMost x y → AtMost v w → AtMost (f x v) (f y w))
+    → {x y v w : Fraction} → Same x y → Same v w → Same (f x v) (f y w)
+mono-same f mono {x} {y} {v} {w} e h = at-most-antisymm
+    (mono x y v w (at-most-of-same e) (at-most-of-same h))
+    (mono y x w v (at-most-of-same (same-sym e)) (at-most-of-same (same-sym h)))
+
 pub plus-same : {x y v w : Fraction} → Same x y → Same v w → Same (plus x v) (plus y w)
-plus-same e f = at-most-antisymm
-    (plus-mono (at-most-of-same e) (at-most-of-same f))
-    (plus-mono (at-most-of-same (same-sym e)) (at-most-of-same (same-sym f)))
+plus-same = mono-same plus (λ x y v w. plus-mono)
+
+pub times-same : {x y v w : Fraction} → Same x y → Same v w → Same (times x v) (times y w)
+times-same = mono-same times (λ x y v w. times-mono)
 
 pub divided-same : {x y : Fraction} (m : ℕ) (above : 0 < m) → Same x y → Same (divided x m above) (divided y m above)
-divided-same m above e = at-most-antisymm (divided-mono m above (at-most-of-same e)) (divided-mono m above (at-most-of-same (same-sym e)))
+divided-same m above e = mono-same (λ x y. divided x m above) (λ x y v w l k. divided-mono m above l) e e
 
 -- ---- basis points
 

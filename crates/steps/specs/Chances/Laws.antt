@@ -7,6 +7,7 @@ use native.Mathlib.Nat.{suc-sub-suc, le-refl, lt-of-le-of-lt}
 use native.Mathlib.Omega.{arith}
 use Rattle.model.specs.Number.{choose}
 use Rattle.model.specs.Fraction.{Fraction, Same, integer, plus, times, divided}
+use Rattle.model.specs.Fraction.Laws.{same-refl, times-same}
 use Rattle.model.specs.Chances.{Chances, share, chance, tailNumerator, tail, lossUnits, lossNumerator, expectedLoss}
 use Rattle.model.specs.Chances.Laws.{tail-next, tail-past, loss-none, loss-next, loss-units-at-most}
 use Rattle.kept.specs.declared.Kept.{Kept}
@@ -14,8 +15,8 @@ use Rattle.kept.specs.declared.Side.{Side}
 use Rattle.kept.specs.declared.Side.the-variants.{Low, High}
 use Rattle.kept.specs.Accuracy.{Fine}
 use Rattle.kept.specs.Accuracy.Laws.{bound-exact}
-use Rattle.kept.specs.Rounding.{IsKept, ofInteger}
-use Rattle.kept.specs.Rounding.Laws.{quotient-is, integer-is, integer-exact}
+use Rattle.kept.specs.Rounding.{IsKept, value, round, roundedProduct, ofInteger}
+use Rattle.kept.specs.Rounding.Laws.{round-cong, quotient-is, integer-is, integer-exact}
 use Rattle.steps.specs.Enclosure.{Enclosed, Made, Bounded}
 use Rattle.steps.specs.Enclosure.Laws.{made-enclosed, made-weaken, made-same, made-nought, made-integer, made-product, made-sum, made-quotient}
 use Rattle.steps.specs.Chances.{keptTotal, keptChance, keptTail, keptTerm, keptLoss, chanceBudget, tailBudget, lossBudget}
@@ -26,9 +27,19 @@ pub chance-made : {side : Side} {b : ℕ} {entry : Kept} {v : Fraction} (n j : �
 unfolding chanceBudget keptChance
 chance-made {side} n j m = made-weaken (omega arith) (made-product (made-integer side (choose n j)) m)
 
+-- Loss units below 2^32 are kept as they are.
+units-exact : (side : Side) (n R A B X : ℕ) → (B - A) * n < 2 ^ 32 → Same (value (ofInteger side (lossUnits n R A B X))) (integer (lossUnits n R A B X))
+units-exact side n R A B X narrow = integer-exact side (lossUnits n R A B X) (lt-of-le-of-lt (loss-units-at-most n R A B X) narrow)
+
 pub loss-kept : (side : Side) (n : ℕ) (c : ℕ → Kept) (R A B : ℕ) (wide : 0 < (B - A) * n) → IsKept (keptLoss side n c R A B wide)
 unfolding keptLoss
 loss-kept side n c R A B wide = quotient-is side (keptTotal side (keptTerm side n c R A B) (suc n)) ((B - A) * n) wide .kept
+
+-- The product of a chance and its loss units is rounded once: the units themselves are a kept number.
+pub term-once : (side : Side) (n : ℕ) (c : ℕ → Kept) (R A B X : ℕ) → (B - A) * n < 2 ^ 32
+    → keptTerm side n c R A B X ≡ round side (times (value (c X)) (integer (lossUnits n R A B X)))
+unfolding keptTerm roundedProduct
+term-once side n c R A B X narrow = round-cong side (times-same same-refl (units-exact side n R A B X narrow))
 
 -- A total of shares of one row: x 0 = 0 and x (m + 1) = x m + t m up to the last, each t i made within b parts.
 module _ (side : Side) {b : ℕ} (r : Chances) (f : ℕ → Kept) (x t : ℕ → ℕ) (last : ℕ) where
@@ -74,7 +85,7 @@ module _ {b : ℕ} {r : Chances} {c : Side → ℕ → Kept} (bounded : Bounded 
         let units : ℕ = lossUnits (r .assets) R A B X in
         let exact : Made side 0 (ofInteger side units) (integer units) = record {
           kept = integer-is side units .kept;
-          bound = bound-exact (integer-exact side units (lt-of-le-of-lt (loss-units-at-most (r .assets) R A B X) narrow));
+          bound = bound-exact (units-exact side (r .assets) R A B X narrow);
         } in
         made-weaken (omega arith) (made-same (omega arith) (made-product (bounded .made side X l) exact))
 

@@ -93,7 +93,7 @@ module _ (side : Side) {n p ρ : ℕ} (room : Room n) (p≤1 : p ≤ whole) (ρ�
   constant-ranged : {x : ℕ} → x ≤ whole → Ranged (constant side x)
   unfolding rowBudget triangle
   constant-ranged {x} l =
-      over-ranged 1 0 (constant-made side p ρ x) (omega arith) (omega arith) (once (rw (pow-suc whole 0, pow-zero whole) (omega arith))) (omega arith)
+      over-ranged 1 0 (constant-made side x) (omega arith) (omega arith) (once (rw (pow-suc whole 0, pow-zero whole) (omega arith))) (omega arith)
 
   conditional-product-at-most : (k : ℕ) → conditional p ρ k * complement ρ ≤ whole ^ suc (suc k)
   conditional-product-at-most k =
@@ -121,7 +121,7 @@ module _ (side : Side) {n p ρ : ℕ} (room : Room n) (p≤1 : p ≤ whole) (ρ�
   rows-ranged is-ρ = constant-ranged ρ≤1
   rows-ranged is-q = constant-ranged (complement-at-most ρ)
   rows-ranged (is-conditional-product k l) =
-      over-ranged (suc (suc k)) 0 (conditional-product-made side p ρ k) (omega arith) (omega arith) (once (conditional-product-at-most k)) (omega arith)
+      over-ranged (suc (suc k)) 0 (conditional-product-made side p ρ k (conditional-made side p ρ k)) (omega arith) (omega arith) (once (conditional-product-at-most k)) (omega arith)
   rows-ranged (is-conditional k l) =
       over-ranged (suc k) 0 (conditional-made side p ρ k) (omega arith) (omega arith)
       (once (omega (arith, conditional-complement p ρ p≤1 ρ≤1 k))) (omega arith)
@@ -137,15 +137,15 @@ module _ (side : Side) {n p ρ : ℕ} (room : Room n) (p≤1 : p ≤ whole) (ρ�
       let passes : ℕ = min s (suc k - suc j) in
       let reached : j + passes ≤ k = omega arith in
       let smaller = triangle-mono l in
-      rw (passed-folded (keptPassStep side p ρ) (keptRow side p ρ k) (suc k) s j)
+      rw (passed-folded (keptPassStep side ρ) (keptRow side p ρ k) (suc k) s j)
       (over-ranged (triangle k + passes) passes (folded-made side p ρ k passes j reached) (omega arith) (omega arith)
       (folded-at-most k passes j reached) (omega arith))
   rows-ranged (is-pass-product k s j l m) =
       let passes : ℕ = min s (suc k - suc j) in
       let reached : j + passes ≤ k = omega arith in
       let smaller = triangle-mono l in
-      rw (passed-folded (keptPassStep side p ρ) (keptRow side p ρ k) (suc k) s j)
-      (over-ranged (suc (triangle k + passes)) passes (pass-product-made side p ρ k passes j reached) (omega arith) (omega arith)
+      rw (passed-folded (keptPassStep side ρ) (keptRow side p ρ k) (suc k) s j)
+      (over-ranged (suc (triangle k + passes)) passes (pass-product-made side ρ _ (triangle k + passes) (folded-made side p ρ k passes j reached)) (omega arith) (omega arith)
       (rw (pow-succ' whole (triangle k + passes)) (omega (arith, mul-le-mul ρ≤1 (folded-at-most k passes j reached)))) (omega arith))
   rows-ranged (is-entry k j l m) =
       let smaller = triangle-mono l in

@@ -147,6 +147,6 @@ answer-says {g} {low} {high} {v} positive kept-low kept-high enclosed most = by-
 pub tranche-says : {g : ℕ} → 0 < g → (r : Chances) (low high : ℕ → Kept) → Complete r → (R A B : ℕ) (wide : 0 < (B - A) * r .assets)
     → Enclosed g (keptLoss Low (r .assets) low R A B wide) (keptLoss High (r .assets) high R A B wide) (expectedLoss r R A B wide)
     → Says (keptLoss Low (r .assets) low R A B wide) (keptLoss High (r .assets) high R A B wide) (expectedLoss r R A B wide)
-        (lossAnswer (keptLoss Low (r .assets) low R A B wide) (keptLoss High (r .assets) high R A B wide))
+    (lossAnswer (keptLoss Low (r .assets) low R A B wide) (keptLoss High (r .assets) high R A B wide))
 tranche-says positive r low high complete R A B wide enclosed =
     answer-says positive (loss-kept Low (r .assets) low R A B wide) (loss-kept High (r .assets) high R A B wide) enclosed (loss-at-most-one r R A B wide complete)

@@ -80,7 +80,7 @@ module _ (n p ρ : ℕ) (p≤1 : p ≤ whole) (ρ≤1 : ρ ≤ whole) where
 
     fine : Fine 100000 (poolBudget n)
     unfolding largestPool poolBudget lossBudget chanceBudget rowBudget precision triangle
-    fine = fine-weaken {m = 6309} (omega (arith, triangle-mono n≤64)) (record { positive = lit< tt; small = lit≤ tt })
+    fine = fine-weaken {m = poolBudget largestPool} (omega (arith, triangle-mono n≤64)) (record { positive = lit< tt; small = lit≤ tt })
 
     -- Both bounds of every entry, chance, tail and tranche loss, at most one part in 100,000 apart.
     pub demands : PoolEnclosed 100000 n p ρ
@@ -103,7 +103,7 @@ module _ (n p ρ : ℕ) (p≤1 : p ≤ whole) (ρ≤1 : ρ ≤ whole) where
     -- What the answer to a tranche loss says.
     pub answer : (R A B : ℕ) → B ≤ whole → (wide : 0 < (B - A) * n)
         → Says (keptPoolLoss Low n p ρ R A B wide) (keptPoolLoss High n p ρ R A B wide) (poolLoss n p ρ R A B wide)
-            (lossAnswer (keptPoolLoss Low n p ρ R A B wide) (keptPoolLoss High n p ρ R A B wide))
+        (lossAnswer (keptPoolLoss Low n p ρ R A B wide) (keptPoolLoss High n p ρ R A B wide))
     unfolding defaults poolLoss keptPoolLoss
     answer R A B B≤1 wide =
         tranche-says (lit< tt) (defaults n p ρ) (keptDefaults Low n p ρ) (keptDefaults High n p ρ) complete R A B wide (demands .losses R A B B≤1 wide)
