@@ -1,5 +1,5 @@
 """Works the six steps out in exact fractions, each product, sum and quotient rounded once, and prints the figures of
-crates/steps/specs/Pool/Sheets.antt: the pool of 3 assets with p = 1000 and rho = 3000, both sides.
+crates/steps/specs/Cases.antt: pools of 3 assets, both sides, a number being s * 2^-(n+1) for the figures s and n.
 
     python3 tools/steps_figures.py
 """
@@ -64,23 +64,29 @@ def loss(side, chances, recovery, lower, upper):
     return bounds(value(total) / ((upper - lower) * n))[side]
 
 
-def figures(numbers):
-    return " ∷ ".join(f"figure {s} {-e - 1}" for s, e in numbers)
+def pairs(name, make):
+    """The significands of both sides and the exponent that they share."""
+    (low, exponent), (high, other) = make(0), make(1)
+    assert exponent == other
+    print(f"{name}: {low} {high} {-exponent - 1}")
 
 
 def main():
-    for side, name in enumerate(("Low", "High")):
-        rows, chances = steps(side, 3, 1000, 3000)
-        print(name)
-        for k in range(1, 4):
-            print(f"row {k}:", figures(rows[k]))
-        print("chances:", figures(chances))
-        print("tails at 1 to 3:", figures(tails(side, chances)[1:]))
-        print("loss:", figures([loss(side, chances, 4000, 1000, 3000)]))
-    low = tails(0, steps(0, 3, 1000, 3000)[1])
+    made = [steps(side, 3, 1000, 3000) for side in (0, 1)]
+    for k in range(1, 4):
+        for j in range(k + 1):
+            pairs(f"entry {k} {j}", lambda side: made[side][0][k][j])
+    for j in range(4):
+        pairs(f"chance {j}", lambda side: made[side][1][j])
+    for k in range(1, 4):
+        pairs(f"tail {k}", lambda side: tails(side, made[side][1])[k])
+    pairs("loss 1000 3000", lambda side: loss(side, made[side][1], 4000, 1000, 3000))
+    low = tails(0, made[0][1])
     printed = [100000] + [floor(100000 * value(x)) for x in low[1:]] + [0]
-    print("printed tails:", *printed[:-1])
     print("printed rows:", *(printed[k] - printed[k + 1] for k in range(4)))
+    print("printed tails:", *printed[:-1])
+    others = [steps(side, 3, 500, 500)[1] for side in (0, 1)]
+    pairs("p = rho = 500, tail 1", lambda side: tails(side, others[side])[1])
 
 
 if __name__ == "__main__":

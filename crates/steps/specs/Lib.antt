@@ -1,3 +1,4 @@
+pub mod Cases
 pub mod Rows
 pub mod Chances
 pub mod Column

@@ -12,7 +12,6 @@ use Rattle.steps.specs.Chances.{keptChance, keptTail, keptLoss, chanceBu
 use Rattle.steps.specs.Enclosure.{Enclosed}
 use Rattle.steps.specs.Exponents.{RowNumber, ChanceNumber, TotalNumber}
 pub mod Theorems
-pub mod Sheets
 
 -- The largest number of assets.
 unfoldable pub largestPool : ℕ

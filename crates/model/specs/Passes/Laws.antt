@@ -1,7 +1,7 @@
 -- What the passes leave in each entry.
 -- Assumes nothing.
 use Prim.Native.Nat.{ℕ, zero, suc, _+_, _-_, min}
-use mathlib.Core.Path.{_≡_, ap, _∙_}
+use mathlib.Core.Path.{_≡_, refl, ap, _∙_}
 use native.Mathlib.Omega.{arith}
 use native.Mathlib.Nat.{zero-min}
 use native.Mathlib.Decide.{decLe}
@@ -21,7 +21,7 @@ module _ {A : Type 0} (step : A → A → A) (f : ℕ → A) where
         let here : min s (k - suc j) ≡ s = omega arith in
         let next : min s (k - suc (suc j)) ≡ s = omega arith in
         let all : min (suc s) (k - suc j) ≡ suc s = omega arith in
-        rw (lt-ltb j (k - suc s) (omega arith), passed-folded k s j, passed-folded k s (suc j), here, next, all)
+        rw (lt-ltb j (k - suc s) (omega arith), passed-folded k s j, passed-folded k s (suc j), here, next, all) refl
   ]
 
   -- After all k passes over k + 1 entries, d = k − j of them have reached entry j.

@@ -25,10 +25,10 @@ use Rattle.steps.specs.Column.{unitsOfCertainty, inUnits, printedTail, u
 
 -- ---- the column
 
-rows-total : (t : ℕ → ℕ) → ((k : ℕ) → t (suc k) ≤ t k) → (m : ℕ) → sum m (λ k. t k - t (suc k)) + t m ≡ t 0
+rows-total : {t : ℕ → ℕ} (rows : ℕ → ℕ) → ((k : ℕ) → rows k + t (suc k) ≡ t k) → (m : ℕ) → sum m rows + t m ≡ t 0
 unfolding sum
-rows-total t falls zero = omega arith
-rows-total t falls (suc m) = omega (arith, falls m, rows-total t falls m)
+rows-total rows difference zero = omega arith
+rows-total rows difference (suc m) = omega (arith, difference m, rows-total rows difference m)
 
 row-near :
     {above below : Fraction} {r : Chances} {t : ℕ → ℕ} → PrintsTails above below r t
@@ -47,17 +47,15 @@ row-near {above} {below} {r} {t} p row k rows l =
       not-below = omega (arith, mul-le-mul-right m (p .at-most (suc k) .cross), mul-lt-mul-of-pos-right (p .more-than k .cross) (above .positive));
     }
 
--- The column of any printed tails.
-pub column-of-tails : {above below : Fraction} {r : Chances} {t : ℕ → ℕ} → PrintsTails above below r t → PrintsColumn (plus above below) r t (λ k. t k - t (suc k))
-column-of-tails {r} {t} p = record {
+-- The column of any printed tails: rows that are the differences of two tails.
+pub column-of-tails : {above below : Fraction} {r : Chances} {t : ℕ → ℕ} (rows : ℕ → ℕ) → PrintsTails above below r t
+    → ((k : ℕ) → rows k + t (suc k) ≡ t k) → PrintsColumn (plus above below) r t rows
+column-of-tails {r} rows p difference = record {
   difference = difference;
-  last = omega (arith, p .past);
-  total = omega (arith, p .past, p .at-zero, rows-total t (p .falls) (suc (r .assets)));
-  near = λ k. row-near p (t k - t (suc k)) k (difference k);
+  last = omega (arith, difference (r .assets), p .past);
+  total = omega (arith, p .past, p .at-zero, rows-total rows difference (suc (r .assets)));
+  near = λ k. row-near p (rows k) k (difference k);
 }
-  where
-    difference : (k : ℕ) → t k - t (suc k) + t (suc k) ≡ t k
-    difference k = omega (arith, p .falls k)
 
 -- A wider distance.
 pub column-weaken : {off off' : Fraction} {r : Chances} {t rows : ℕ → ℕ} → AtMost off off' → PrintsColumn off r t rows → PrintsColumn off' r t rows

@@ -32,14 +32,6 @@ use Rattle.steps.specs.Exponents.{Ranged, RowNumber, ChanceNumber, Total
 use Rattle.steps.specs.Exponents.{is-p, is-a, is-ρ, is-q, is-conditional-product, is-conditional, is-joint, is-power, is-weight, is-passed, is-pass-product, is-entry}
 use Rattle.steps.specs.Exponents.{is-count, is-chance, is-tail, is-units, is-term, is-total, is-loss}
 
--- What the methods of kept numbers ask for.
-pub ranged-operand : {x : Kept} → Ranged x → Operand x
-ranged-operand {x} r = record { kept = r .kept; reach = record { within = within (x .exponent) (r .least) (r .most) } }
-  where
-    within : (e : ℤ) → negsuc 79999 ≤ℤ e → e ≤ℤ pos 100 → natAbs e ≤ 1000000000
-    within (pos k) least most = omega (arith, leb→le k 100 (most .le))
-    within (negsuc k) least most = omega (arith, leb→le k 79999 (least .le))
-
 weaken-least : {a b : ℕ} → a ≤ b → (e : ℤ) → negsuc a ≤ℤ e → negsuc b ≤ℤ e
 weaken-least l (pos k) least = record { le = tt }
 weaken-least {a} {b} l (negsuc k) least = record { le = le→leb k b (le-trans (leb→le k a (least .le)) l) }
@@ -58,6 +50,14 @@ made-ranged {x} made parts m c den digits num values =
       least = weaken-least (omega arith) (x .exponent) (exponent .0);
       most = weaken-most values (x .exponent) (exponent .1);
     }
+
+-- What the methods of kept numbers ask for.
+pub ranged-operand : {x : Kept} → Ranged x → Operand x
+ranged-operand {x} r = record { kept = r .kept; reach = record { within = within (x .exponent) (r .least) (r .most) } }
+  where
+    within : (e : ℤ) → negsuc 79999 ≤ℤ e → e ≤ℤ pos 100 → natAbs e ≤ 1000000000
+    within (pos k) least most = omega (arith, leb→le k 100 (most .le))
+    within (negsuc k) least most = omega (arith, leb→le k 79999 (least .le))
 
 integer-ranged : (side : Side) (x c : ℕ) → x ≤ 2 ^ c → c ≤ 100 → Ranged (ofInteger side x)
 unfolding integer precision

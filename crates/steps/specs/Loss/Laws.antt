@@ -55,7 +55,7 @@ raised-greater x = by-test (belowShown x) refl
 
 pub answer-untouched : (low high : Kept) → high ≡ nought → lossAnswer low high ≡ untouched
 unfolding lossAnswer nought
-answer-untouched low high is = rw is
+answer-untouched low high is = rw is refl
 
 -- The test for zero of a kept number that is not zero.
 tests-not-zero : {x : Kept} → IsKept x → (x ≡ nought → ⊥) → eqb (x .significand) 0 ≡ false
@@ -63,11 +63,11 @@ tests-not-zero {x} kept not = ne-eqb (x .significand) 0 (λ none. elim (kept .fo
 
 pub answer-faint : (low high : Kept) → IsKept high → (high ≡ nought → ⊥) → Less (value low) leastShown → lossAnswer low high ≡ faint (toBinary64 (raisedToShown high))
 unfolding lossAnswer belowShown
-answer-faint low high kept not below = rw (tests-not-zero kept not, lt-ltb _ _ (below .cross))
+answer-faint low high kept not below = rw (tests-not-zero kept not, lt-ltb _ _ (below .cross)) refl
 
 pub answer-shown : (low high : Kept) → IsKept high → (high ≡ nought → ⊥) → AtMost leastShown (value low) → lossAnswer low high ≡ shown (toBinary64 low) (toBinary64 high)
 unfolding lossAnswer belowShown
-answer-shown low high kept not least = rw (tests-not-zero kept not, le-ltb _ _ (least .cross))
+answer-shown low high kept not least = rw (tests-not-zero kept not, le-ltb _ _ (least .cross)) refl
 
 -- ---- what it says
 

@@ -98,7 +98,7 @@ module _ (n p ρ : ℕ) (p≤1 : p ≤ whole) (ρ≤1 : ρ ≤ whole) where
     -- The printed rows add to 100,000, none is below zero, and each is less than 1.5 units from the exact chance.
     pub column : PrintsColumn (tenths 15) (defaults n p ρ) (printedTail n (keptDefaults Low n p ρ)) (printedRow n (keptDefaults Low n p ρ))
     unfolding printedRow plus integer tenths
-    column = column-weaken (record { cross = lit≤ tt }) (column-of-tails printed)
+    column = column-weaken (record { cross = lit≤ tt }) (column-of-tails (printedRow n (keptDefaults Low n p ρ)) printed (λ k. omega (arith, printed .falls k)))
 
     -- What the answer to a tranche loss says.
     pub answer : (R A B : ℕ) → B ≤ whole → (wide : 0 < (B - A) * n)
