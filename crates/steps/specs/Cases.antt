@@ -1,7 +1,7 @@
 -- Pools of 3 assets by the steps, digit for digit, and the column that the scope paper prints for p = 1000 and ρ = 3000. The digits were worked out in exact
 -- fractions by tools/steps_figures.py.
 -- Assumes nothing.
-use Prim.Native.Nat.{ℕ, zero, suc, _-_, _*_, _<_}
+use Prim.Native.Nat.{ℕ, _-_, _*_, _<_}
 use mathlib.Core.Path.{_≡_, refl}
 use lib.Dec.{lit<}
 use lib.IntN.{negsuc}

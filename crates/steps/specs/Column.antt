@@ -31,15 +31,15 @@ module _ (n : ℕ) (c : ℕ → Kept) where
   printedRow k = printedTail k - printedTail (suc k)
 
 -- A fraction in units.
-unfoldable pub units : Fraction → Fraction
-units x = times (integer unitsOfCertainty) x
+unfoldable pub exactUnits : Fraction → Fraction
+exactUnits x = times (integer unitsOfCertainty) x
 
 -- What is used of a printed tail t, however it is rounded: it does not grow; in units it is at most `above` above the exact tail and less than `below` below
 -- it; at 0 it is 100,000; past n it is zero.
 pub record PrintsTails (above below : Fraction) (r : Chances) (t : ℕ → ℕ) : Type 0 where
   pub falls : (k : ℕ) → t (suc k) ≤ t k
-  pub at-most : (k : ℕ) → AtMost (integer (t k)) (plus (units (tail r k)) above)
-  pub more-than : (k : ℕ) → Less (units (tail r k)) (plus (integer (t k)) below)
+  pub at-most : (k : ℕ) → AtMost (integer (t k)) (plus (exactUnits (tail r k)) above)
+  pub more-than : (k : ℕ) → Less (exactUnits (tail r k)) (plus (integer (t k)) below)
   pub at-zero : t 0 ≡ unitsOfCertainty
   pub past : t (suc (r .assets)) ≡ 0
 
@@ -54,7 +54,7 @@ pub record PrintsColumn (off : Fraction) (r : Chances) (t rows : ℕ → ℕ) : 
   pub difference : (k : ℕ) → rows k + t (suc k) ≡ t k
   pub last : rows (r .assets) ≡ t (r .assets)
   pub total : sum (suc (r .assets)) rows ≡ unitsOfCertainty
-  pub near : (k : ℕ) → k ≤ r .assets → Within off (integer (rows k)) (units (chance r k))
+  pub near : (k : ℕ) → k ≤ r .assets → Within off (integer (rows k)) (exactUnits (chance r k))
 
 -- n / 10
 unfoldable pub tenths : ℕ → Fraction

@@ -55,5 +55,5 @@ pub data TotalNumber (side : Side) (n : ℕ) (c : ℕ → Kept) (R A B : ℕ) : 
 -- binary digits, and there are no more than 100 passes.
 pub record Room (n : ℕ) : Type 0 where
   pub parts : (rowBudget (suc n) + 2) * 2 ≤ precision
-  pub digits : 14 * (triangle (suc n) + 2) ≤ 79968
+  pub places : 14 * (triangle (suc n) + 2) ≤ 79968
   pub passes : n ≤ 100

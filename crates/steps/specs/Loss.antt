@@ -1,6 +1,6 @@
 -- The answer to a tranche loss, from the low and the high side of step 6.
 -- Assumes nothing.
-use Prim.Native.Nat.{_^_}
+use Prim.Native.Nat.{ℕ, _^_}
 use mathlib.Core.Path.{_≡_}
 use mathlib.Core.Bool.{cond}
 use lib.Dec.{eqb}
@@ -10,6 +10,7 @@ use Rattle.model.specs.Fraction.{Fraction, Same, AtMost, Less, integer}
 use Rattle.kept.specs.declared.Kept.{Kept}
 use Rattle.kept.specs.Rounding.{value, nought}
 use Rattle.kept.specs.Binary64.{leastShown, belowShown, toBinary64, IsBinary64}
+use Rattle.steps.specs.Enclosure.{Enclosed}
 pub mod Laws
 
 -- One of three, each with its f64 numbers. Untouched and faint are the scope paper's terms: a loss whose high side is zero, and one that is too small to be
@@ -34,7 +35,7 @@ lossAnswer low high =
     cond (eqb (high .significand) 0) untouched
     (cond (belowShown low) (faint (toBinary64 (raisedToShown high))) (shown (toBinary64 low) (toBinary64 high)))
 
--- ---- what each answer says of the exact loss v and of its two bounds
+-- ---- what each answer says of the exact loss v and of its two bounds, which are to be at most one part in g apart
 
 pub record SaysUntouched (low high : Kept) (v : Fraction) : Type 0 where
   pub high-zero : high ≡ nought
@@ -49,13 +50,15 @@ pub record SaysFaint (low high : Kept) (v : Fraction) (number : Float) : Type 0 
   pub from-exact : AtMost v (value (raisedToShown high))
   pub from-least : AtMost leastShown (value (raisedToShown high))
 
-pub record SaysShown (low high : Kept) (v : Fraction) (lower upper : Float) : Type 0 where
+pub record SaysShown (g : ℕ) (low high : Kept) (v : Fraction) (lower upper : Float) : Type 0 where
   pub low-not-below : AtMost leastShown (value low)
   pub high-not-zero : high ≡ nought → ⊥
+  -- The two numbers are the bounds of step 6, exactly.
   pub lower-is : IsBinary64 low lower
   pub upper-is : IsBinary64 high upper
+  pub enclosed : Enclosed g low high v
 
-abbrev pub Says : (low high : Kept) (v : Fraction) → LossAnswer → Type 0
-Says low high v untouched = SaysUntouched low high v
-Says low high v (faint number) = SaysFaint low high v number
-Says low high v (shown lower upper) = SaysShown low high v lower upper
+abbrev pub Says : (g : ℕ) (low high : Kept) (v : Fraction) → LossAnswer → Type 0
+Says g low high v untouched = SaysUntouched low high v
+Says g low high v (faint number) = SaysFaint low high v number
+Says g low high v (shown lower upper) = SaysShown g low high v lower upper

@@ -21,7 +21,7 @@ use Rattle.kept.specs.Accuracy.Laws.{precision-positive}
 use Rattle.steps.specs.Enclosure.{Bounded}
 use Rattle.steps.specs.Chances.{keptTotal, keptTail, tailBudget}
 use Rattle.steps.specs.Chances.Laws.{tail-made}
-use Rattle.steps.specs.Column.{unitsOfCertainty, inUnits, printedTail, units, PrintsTails, Within, PrintsColumn}
+use Rattle.steps.specs.Column.{unitsOfCertainty, inUnits, printedTail, exactUnits, PrintsTails, Within, PrintsColumn}
 
 -- ---- the column
 
@@ -32,8 +32,8 @@ rows-total rows difference (suc m) = omega (arith, difference m, rows-total rows
 
 row-near :
     {above below : Fraction} {r : Chances} {t : ℕ → ℕ} → PrintsTails above below r t
-    → (row k : ℕ) → row + t (suc k) ≡ t k → k ≤ r .assets → Within (plus above below) (integer row) (units (chance r k))
-unfolding plus times integer units chance tail share
+    → (row k : ℕ) → row + t (suc k) ≡ t k → k ≤ r .assets → Within (plus above below) (integer row) (exactUnits (chance r k))
+unfolding plus times integer exactUnits chance tail share
 row-near {above} {below} {r} {t} p row k rows l =
     let U : ℕ = unitsOfCertainty in
     let T : ℕ → ℕ = tailNumerator r in
@@ -75,25 +75,25 @@ integer-order : {q s : ℕ} → AtMost (integer q) (integer s) → q ≤ s
 unfolding integer
 integer-order l = omega arith
 
-units-order : {x y : Fraction} → AtMost x y → AtMost (units x) (units y)
-unfolding units
+units-order : {x y : Fraction} → AtMost x y → AtMost (exactUnits x) (exactUnits y)
+unfolding exactUnits
 units-order l = times-mono at-most-refl l
 
-units-certainty : Same (units certainty) (integer unitsOfCertainty)
-unfolding units times integer certainty
+units-certainty : Same (exactUnits certainty) (integer unitsOfCertainty)
+unfolding exactUnits times integer certainty
 units-certainty = omega arith
 
 -- The units of x, rounded down, are not above x; one more is above it; none that is not above x is more.
-in-units-at-most : (x : Kept) → AtMost (integer (inUnits x)) (units (value x))
-unfolding inUnits units times integer
+in-units-at-most : (x : Kept) → AtMost (integer (inUnits x)) (exactUnits (value x))
+unfolding inUnits exactUnits times integer
 in-units-at-most x = omega (arith, div-mul-le-self (unitsOfCertainty * value x .num) (value x .den))
 
-in-units-next : (x : Kept) → Less (units (value x)) (integer (suc (inUnits x)))
-unfolding inUnits units times integer
+in-units-next : (x : Kept) → Less (exactUnits (value x)) (integer (suc (inUnits x)))
+unfolding inUnits exactUnits times integer
 in-units-next x = omega (arith, lt-div-mul-add {a = unitsOfCertainty * value x .num} (value x .positive))
 
-in-units-best : {q : ℕ} (x : Kept) → AtMost (integer q) (units (value x)) → q ≤ inUnits x
-unfolding inUnits units times integer
+in-units-best : {q : ℕ} (x : Kept) → AtMost (integer q) (exactUnits (value x)) → q ≤ inUnits x
+unfolding inUnits exactUnits times integer
 in-units-best x l = le-div-iff-mul-le (value x .positive) .1 (omega (arith, l .cross))
 
 in-units-nought : inUnits nought ≡ 0
@@ -134,7 +134,7 @@ module _ {N : ℕ} (r : Chances) (c : ℕ → Kept) (low : (k : ℕ) → Bound L
   unfolding keptTail keptTotal
   low-past = rw sub-self in-units-nought
 
-  low-at-most : (k : ℕ) → AtMost (integer (inUnits (low-tail k))) (units (tail r k))
+  low-at-most : (k : ℕ) → AtMost (integer (inUnits (low-tail k))) (exactUnits (tail r k))
   low-at-most k = at-most-trans (in-units-at-most (low-tail k)) (units-order (low k .order))
 
   low-at-most-one : (k : ℕ) → AtMost (integer (inUnits (low-tail k))) (integer unitsOfCertainty)
@@ -142,8 +142,8 @@ module _ {N : ℕ} (r : Chances) (c : ℕ → Kept) (low : (k : ℕ) → Bound L
       at-most-trans (low-at-most k) (at-most-trans (units-order (tail-at-most-one r complete k)) (at-most-of-same units-certainty))
 
   module _ (below : Fraction) (slack : (precision + unitsOfCertainty * N) * below .den ≤ below .num * precision) where
-    low-more-than : (k : ℕ) → Less (units (tail r k)) (plus (integer (inUnits (low-tail k))) below)
-    unfolding units times plus integer certainty
+    low-more-than : (k : ℕ) → Less (exactUnits (tail r k)) (plus (integer (inUnits (low-tail k))) below)
+    unfolding exactUnits times plus integer certainty
     low-more-than k =
         let U : ℕ = unitsOfCertainty in
         let B : ℕ = precision in
@@ -166,7 +166,7 @@ module _ {N : ℕ} (r : Chances) (c : ℕ → Kept) (low : (k : ℕ) → Bound L
     unfolding printedTail
     printed-of-low = record {
       falls = λ k. elim k [ zero ↦ integer-order (low-at-most-one 1) | suc j ↦ low-falls (suc j) ];
-      at-most = λ k. at-most-trans (elim k [ zero ↦ at-zero | suc j ↦ low-at-most (suc j) ]) (plus-more (units (tail r k)) (integer 0));
+      at-most = λ k. at-most-trans (elim k [ zero ↦ at-zero | suc j ↦ low-at-most (suc j) ]) (plus-more (exactUnits (tail r k)) (integer 0));
       more-than = λ k. elim k [
         | zero ↦ less-at-most-trans (low-more-than 0) (plus-mono (low-at-most-one 0) at-most-refl)
         | suc j ↦ low-more-than (suc j)
@@ -175,7 +175,7 @@ module _ {N : ℕ} (r : Chances) (c : ℕ → Kept) (low : (k : ℕ) → Bound L
       past = low-past;
     }
       where
-        at-zero : AtMost (integer unitsOfCertainty) (units (tail r 0))
+        at-zero : AtMost (integer unitsOfCertainty) (exactUnits (tail r 0))
         at-zero = at-most-trans (at-most-of-same (same-sym units-certainty)) (units-order (at-most-of-same (same-sym (tail-at-zero r complete))))
 
 -- The tails of low chances that are b away, rounded down: one unit is lost by that, and 100,000 × budget / 2^31 by the low tail.

@@ -10,10 +10,10 @@ use Rattle.model.specs.Fraction.Laws.{same-sym}
 use Rattle.kept.specs.declared.Kept.{Kept}
 use Rattle.kept.specs.declared.Side.{Side}
 use Rattle.kept.specs.declared.Side.the-variants.{Low, High}
-use Rattle.kept.specs.Rounding.{IsKept, value, scaled, nought, unity, ofInteger, ofBasisPoints, roundedProduct, roundedSum, roundedQuotient}
+use Rattle.kept.specs.Rounding.{IsKept, value, nought, unity, ofInteger, ofBasisPoints, roundedProduct, roundedSum, roundedQuotient}
 use Rattle.kept.specs.Rounding.Leading.{nought-same}
 use Rattle.kept.specs.Rounding.Laws.{kept-unique, nought-kept, unity-kept, unity-value, product-is, sum-is, quotient-is, integer-is, basis-points-is}
-use Rattle.kept.specs.Accuracy.{Bound, Fine}
+use Rattle.kept.specs.Accuracy.{Fine}
 use Rattle.kept.specs.Accuracy.Laws.{bound-exact, bound-weaken, bound-same, bound-integer, bound-basis-points, bound-product, bound-sum, bound-quotient, bound-distance}
 use Rattle.steps.specs.Enclosure.{Enclosed, Made}
 

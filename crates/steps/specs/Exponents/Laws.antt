@@ -87,7 +87,7 @@ module _ (side : Side) {n p ρ : ℕ} (room : Room n) (p≤1 : p ≤ whole) (ρ�
       → N ≤ whole ^ t * 2 ^ c → c ≤ n → Ranged x
   unfolding over
   over-ranged t c made parts digits num values =
-      made-ranged made (omega (arith, room .parts)) (14 * t) c (whole-digits t) (omega (arith, room .digits)) num (omega (arith, room .passes))
+      made-ranged made (omega (arith, room .parts)) (14 * t) c (whole-digits t) (omega (arith, room .places)) num (omega (arith, room .passes))
 
   -- One of p, a, ρ and q.
   constant-ranged : {x : ℕ} → x ≤ whole → Ranged (constant side x)

@@ -108,7 +108,7 @@ high-to-two {g} {low} {high} {v} positive enclosed most =
     }
 
 -- What it says, of an exact loss of at most one between two bounds.
-pub answer-says : {g : ℕ} {low high : Kept} {v : Fraction} → 0 < g → IsKept low → IsKept high → Enclosed g low high v → AtMost v certainty → Says low high v (lossAnswer low high)
+pub answer-says : {g : ℕ} {low high : Kept} {v : Fraction} → 0 < g → IsKept low → IsKept high → Enclosed g low high v → AtMost v certainty → Says g low high v (lossAnswer low high)
 unfolding integer nought scaled
 answer-says {g} {low} {high} {v} positive kept-low kept-high enclosed most = by-form (kept-high .form)
   where
@@ -118,7 +118,7 @@ answer-says {g} {low} {high} {v} positive kept-low kept-high enclosed most = by-
     order : AtMost (value low) (value high)
     order = at-most-trans (enclosed .from-below) (enclosed .from-above)
 
-    by-test : (high ≡ nought → ⊥) → (t : Bool) → belowShown low ≡ t → Says low high v (lossAnswer low high)
+    by-test : (high ≡ nought → ⊥) → (t : Bool) → belowShown low ≡ t → Says g low high v (lossAnswer low high)
     by-test not true test =
         let below = below-shown-yes low test in
         rw (answer-faint low high kept-high not below) (record {
@@ -135,9 +135,10 @@ answer-says {g} {low} {high} {v} positive kept-low kept-high enclosed most = by-
           high-not-zero = not;
           lower-is = binary64-to-two kept-low least (at-most-trans order high-most);
           upper-is = binary64-to-two kept-high (at-most-trans least order) high-most;
+          enclosed = enclosed;
         })
 
-    by-form : (high ≡ nought) ⊎ Normal (high .significand) → Says low high v (lossAnswer low high)
+    by-form : (high ≡ nought) ⊎ Normal (high .significand) → Says g low high v (lossAnswer low high)
     by-form (inl is) =
         let none : v .num ≡ 0 = omega (arith, (rw is at (enclosed .from-above)) .cross) in
         rw (answer-untouched low high is) (record { high-zero = is; low-zero = enclosed .of-zero none .0; exact-zero = omega arith })
@@ -146,7 +147,7 @@ answer-says {g} {low} {high} {v} positive kept-low kept-high enclosed most = by-
 -- The tranche losses of a row of chances in general.
 pub tranche-says : {g : ℕ} → 0 < g → (r : Chances) (low high : ℕ → Kept) → Complete r → (R A B : ℕ) (wide : 0 < (B - A) * r .assets)
     → Enclosed g (keptLoss Low (r .assets) low R A B wide) (keptLoss High (r .assets) high R A B wide) (expectedLoss r R A B wide)
-    → Says (keptLoss Low (r .assets) low R A B wide) (keptLoss High (r .assets) high R A B wide) (expectedLoss r R A B wide)
+    → Says g (keptLoss Low (r .assets) low R A B wide) (keptLoss High (r .assets) high R A B wide) (expectedLoss r R A B wide)
     (lossAnswer (keptLoss Low (r .assets) low R A B wide) (keptLoss High (r .assets) high R A B wide))
 tranche-says positive r low high complete R A B wide enclosed =
     answer-says positive (loss-kept Low (r .assets) low R A B wide) (loss-kept High (r .assets) high R A B wide) enclosed (loss-at-most-one r R A B wide complete)

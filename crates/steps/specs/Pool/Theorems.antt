@@ -1,16 +1,14 @@
 -- Demands 2 and 3 of the steps, for every pool of 1 to 64 assets, every default probability p and correlation ρ from 0 to 10,000, every recovery R and every
 -- tranche A < B ≤ 10,000.
 -- Assumes nothing.
-use Prim.Native.Nat.{ℕ, _+_, _-_, _*_, _^_, _≤_, _<_}
-use mathlib.Core.Path.{_≡_, refl}
+use Prim.Native.Nat.{ℕ, _-_, _*_, _^_, _≤_, _<_}
 use native.Mathlib.Omega.{arith}
 use native.Mathlib.Nat.{mul-le-mul-right}
 use lib.Dec.{lit<, lit≤}
-use Rattle.model.specs.Number.{choose, triangle}
+use Rattle.model.specs.Number.{triangle}
 use Rattle.model.specs.Number.Laws.{triangle-mono}
-use Rattle.model.specs.Fraction.{Same, AtMost, whole, integer, plus, times, over, certainty}
-use Rattle.model.specs.Chances.{share, chance, Complete, expectedLoss}
-use Rattle.model.specs.Chances.Laws.{loss-at-most-one}
+use Rattle.model.specs.Fraction.{whole, integer, plus, times, over, certainty}
+use Rattle.model.specs.Chances.{share, chance, Complete}
 use Rattle.model.specs.CorrelatedBinomial.{probability, defaults}
 use Rattle.model.specs.CorrelatedBinomial.Theorems.{probability-at-most-one, defaults-complete}
 use Rattle.kept.specs.declared.Kept.{Kept}
@@ -18,11 +16,11 @@ use Rattle.kept.specs.declared.Side.{Side}
 use Rattle.kept.specs.declared.Side.the-variants.{Low, High}
 use Rattle.kept.specs.Accuracy.{precision, Fine}
 use Rattle.kept.specs.Accuracy.Laws.{fine-weaken}
-use Rattle.steps.specs.Rows.{keptRow, rowBudget}
+use Rattle.steps.specs.Rows.{rowBudget}
 use Rattle.steps.specs.Rows.Laws.{entry-made}
-use Rattle.steps.specs.Chances.{keptTail, keptLoss, chanceBudget, tailBudget, lossBudget}
+use Rattle.steps.specs.Chances.{chanceBudget, tailBudget, lossBudget}
 use Rattle.steps.specs.Chances.Laws.{chance-made, chance-enclosed, tail-enclosed, loss-enclosed}
-use Rattle.steps.specs.Enclosure.{Made, Bounded}
+use Rattle.steps.specs.Enclosure.{Bounded}
 use Rattle.steps.specs.Enclosure.Laws.{made-enclosed, made-same}
 use Rattle.steps.specs.Column.{unitsOfCertainty, printedTail, printedRow, tenths, PrintsTails, PrintsColumn}
 use Rattle.steps.specs.Column.Laws.{printed-tails, column-of-tails, column-weaken}
@@ -66,25 +64,25 @@ module _ (n p ρ : ℕ) (p≤1 : p ≤ whole) (ρ≤1 : ρ ≤ whole) where
     pool-ranged side R A B B≤1 (of-chances number) =
         chances-ranged (λ j. probability p ρ j n) (λ j l. entry-made side p ρ p≤1 ρ≤1 l)
         (λ j l. omega (arith, probability-at-most-one p ρ p≤1 ρ≤1 l .cross)) (λ j l. whole-digits (triangle n))
-        (omega (arith, room .parts)) (omega (arith, room .digits)) (room .passes) number
+        (omega (arith, room .parts)) (omega (arith, room .places)) (room .passes) number
     pool-ranged side R A B B≤1 (of-totals number) =
         totals-ranged defaults-bounded complete side R A B (14 * triangle n) (narrow A B B≤1)
-        (omega (arith, room .parts)) (whole-digits (triangle n)) (omega (arith, room .digits)) number
+        (omega (arith, room .parts)) (whole-digits (triangle n)) (omega (arith, room .places)) number
 
   -- ---- for 1 to 64 assets
 
   module _ (n≤64 : n ≤ largestPool) where
     room : Room n
     unfolding rowBudget precision largestPool triangle
-    room = let most = triangle-mono n≤64 in record { parts = omega arith; digits = omega arith; passes = omega arith }
+    room = let most = triangle-mono n≤64 in record { parts = omega arith; places = omega arith; passes = omega arith }
 
     fine : Fine 100000 (poolBudget n)
     unfolding largestPool poolBudget lossBudget chanceBudget rowBudget precision triangle
     fine = fine-weaken {m = poolBudget largestPool} (omega (arith, triangle-mono n≤64)) (record { positive = lit< tt; small = lit≤ tt })
 
     -- Both bounds of every entry, chance, tail and tranche loss, at most one part in 100,000 apart.
-    pub demands : PoolEnclosed 100000 n p ρ
-    demands = pool-enclosed room fine
+    pub enclosure : PoolEnclosed 100000 n p ρ
+    enclosure = pool-enclosed room fine
 
     -- Every number that the steps make has an exponent from −80,000 to 100.
     pub exponents : (side : Side) (R A B : ℕ) → B ≤ whole → {x : Kept} → PoolNumber side n p ρ R A B x → Ranged x
@@ -102,8 +100,8 @@ module _ (n p ρ : ℕ) (p≤1 : p ≤ whole) (ρ≤1 : ρ ≤ whole) where
 
     -- What the answer to a tranche loss says.
     pub answer : (R A B : ℕ) → B ≤ whole → (wide : 0 < (B - A) * n)
-        → Says (keptPoolLoss Low n p ρ R A B wide) (keptPoolLoss High n p ρ R A B wide) (poolLoss n p ρ R A B wide)
+        → Says 100000 (keptPoolLoss Low n p ρ R A B wide) (keptPoolLoss High n p ρ R A B wide) (poolLoss n p ρ R A B wide)
         (lossAnswer (keptPoolLoss Low n p ρ R A B wide) (keptPoolLoss High n p ρ R A B wide))
     unfolding defaults poolLoss keptPoolLoss
     answer R A B B≤1 wide =
-        tranche-says (lit< tt) (defaults n p ρ) (keptDefaults Low n p ρ) (keptDefaults High n p ρ) complete R A B wide (demands .losses R A B B≤1 wide)
+        tranche-says (lit< tt) (defaults n p ρ) (keptDefaults Low n p ρ) (keptDefaults High n p ρ) complete R A B wide (enclosure .losses R A B B≤1 wide)
