@@ -10,7 +10,7 @@ use lib.IntN.{pos, negsuc, _-ℤ_}
 use lib.Dec.{ltb}
 use borrow.Author.Tests.{ltb-true}
 use Rattle.model.specs.Number.{sum, sumBetween, cut, raise}
-use Rattle.model.specs.Number.Laws.{sum-cong, sum-mono, sum-times, sum-last, between-first, between-none, between-total}
+use Rattle.model.specs.Number.Laws.{sum-cong, sum-last, between-first, between-none, between-total}
 use Rattle.model.specs.Fraction.{Same, AtMost, certainty, complement}
 use Rattle.model.specs.Chances.{Chances, Complete, share, tailNumerator, tail, mean, tailsTotal, lossUnits, lossNumerator, expectedLoss}
 
@@ -57,9 +57,15 @@ module _ (r : Chances) where
     unfolding tail share certainty
     tail-at-zero = omega (arith, whole-tail)
 
+    pub tail-at-most : (k : ℕ) → tailNumerator r k ≤ r .denominator
+    tail-at-most k = omega (arith, whole-tail, rw zero-add at (tail-steps 0 k))
+
     pub tail-at-most-one : (k : ℕ) → AtMost (tail r k) certainty
     unfolding tail share certainty
-    tail-at-most-one k = omega (arith, whole-tail, rw zero-add at (tail-steps 0 k))
+    tail-at-most-one k = omega (arith, tail-at-most k)
+
+    pub chance-at-most : {j : ℕ} → j ≤ r .assets → r .numerator j ≤ r .denominator
+    chance-at-most {j} l = omega (arith, tail-next l, tail-at-most j)
 
 -- ---- loss units
 
@@ -106,15 +112,23 @@ module _ (r : Chances) (R A B : ℕ) where
       sum-last n (λ X. r .numerator X * lossUnits n R A B X)
       (λ X l. let zero-units : lossUnits n R A B X ≡ 0 = omega (arith, loss-units-grow n R A B {X = X} {Y = n - 1} (omega arith)) in rw zero-units (omega arith))
 
+  module _ (complete : Complete r) where
+    -- The loss of fewer than k defaults, with all units lost from k on.
+    loss-and-tail : (k : ℕ) → k ≤ suc (r .assets)
+        → lossNumerator r R A B k + tailNumerator r k * ((B - A) * r .assets) ≤ r .denominator * ((B - A) * r .assets)
+    loss-and-tail zero l = omega (arith, loss-none, mul-le-mul-right ((B - A) * r .assets) (tail-at-most r complete 0))
+    loss-and-tail (suc k) l =
+        omega (
+          arith,
+          loss-and-tail k (omega arith),
+          loss-next k,
+          mul-le-mul-left (r .numerator k) (loss-units-at-most (r .assets) R A B k),
+          ap (λ z. z * ((B - A) * r .assets)) (tail-next r {k = k} (omega arith)),
+        )
+
+    pub loss-at-most : {k : ℕ} → k ≤ suc (r .assets) → lossNumerator r R A B k ≤ r .denominator * ((B - A) * r .assets)
+    loss-at-most {k} l = omega (arith, loss-and-tail k l)
+
   pub loss-at-most-one : (wide : 0 < (B - A) * r .assets) → Complete r → AtMost (expectedLoss r R A B wide) certainty
-  unfolding expectedLoss lossNumerator certainty
-  loss-at-most-one wide complete =
-      let n = r .assets in
-      let c = r .numerator in
-      let width : ℕ = (B - A) * n in
-      omega (
-        arith,
-        sum-mono (suc n) {f = λ X. c X * lossUnits n R A B X} {g = λ X. width * c X} (λ X l. omega (arith, mul-le-mul-left (c X) (loss-units-at-most n R A B X))),
-        sum-times (suc n) width c,
-        ap (λ z. width * z) complete,
-      )
+  unfolding expectedLoss certainty
+  loss-at-most-one wide complete = omega (arith, loss-at-most complete (le-refl (suc (r .assets))))

@@ -3,7 +3,7 @@
 use Prim.Native.Nat.{ℕ, zero, suc, _+_, _*_, _-_, _^_, _≤_, _<_, zero-le}
 use mathlib.Core.Path.{_≡_, refl, sym, _∙_, ap}
 use native.Mathlib.Omega.{arith}
-use native.Mathlib.Nat.{add-zero, zero-add, add-suc, suc-add, one-mul, sub-zero, sub-self, suc-sub-suc, add-sub-of-le, pow-succ', pow-zero, le-refl, le-of-suc-le-suc, mul-le-mul-left}
+use native.Mathlib.Nat.{add-zero, zero-add, add-suc, suc-add, one-mul, sub-zero, sub-self, suc-sub-suc, add-sub-of-le, pow-succ', pow-zero, le-refl, le-of-suc-le-suc, mul-le-mul, mul-le-mul-left}
 use native.Mathlib.Numerals.{one-add}
 use borrow.Author.Tests.{lt-ltb, le-ltb}
 use lib.Pow.{pow-add}
@@ -75,7 +75,7 @@ module _ (p ρ : ℕ) where
 
   module _ (p≤1 : p ≤ whole) (ρ≤1 : ρ ≤ whole) where
     -- 1 − p_(k+1) = a × q^k
-    pub conditional-complement : (k : ℕ) → conditional p ρ k + complement p * complement ρ ^ k ≡ whole ^ suc k
+    conditional-complement : (k : ℕ) → conditional p ρ k + complement p * complement ρ ^ k ≡ whole ^ suc k
     unfolding conditional
     conditional-complement zero = rw (pow-zero (complement ρ), pow-succ' whole 0, pow-zero whole) (omega (arith, complement-law p≤1))
     conditional-complement (suc k) =
@@ -165,3 +165,24 @@ module _ (p ρ : ℕ) where
     row-at-most zero j l = rw (pow-zero whole) (le-refl 1)
     row-at-most (suc k) zero l = parts-at-most {k = k} zero-le (row-at-most k zero zero-le) .0
     row-at-most (suc k) (suc j) l = parts-at-most (le-of-suc-le-suc l) (row-at-most k j (le-of-suc-le-suc l)) .1
+
+    pub conditional-at-most : (k : ℕ) → conditional p ρ k ≤ whole ^ suc k
+    conditional-at-most k = omega (arith, conditional-complement k)
+
+    pub weight-at-most : (j : ℕ) → complement p * complement ρ ^ j ≤ whole ^ suc j
+    weight-at-most j = omega (arith, conditional-complement j)
+
+    pub joint-at-most : (k : ℕ) → joint p ρ k ≤ whole ^ triangle k
+    joint-at-most k = rw (← row-last k) (row-at-most k k (le-refl k))
+
+    -- A pass at most doubles an entry.
+    pub folded-at-most : (k s j : ℕ) → j + s ≤ k → folded (passStep ρ) s (rowEntry p ρ k) j ≤ whole ^ (triangle k + s) * 2 ^ s
+    unfolding folded passStep
+    folded-at-most k zero j l = rw (add-zero (triangle k)) (omega (arith, row-at-most k j (omega arith)))
+    folded-at-most k (suc s) j l =
+        rw (add-suc (triangle k) s, pow-succ' whole (triangle k + s), pow-succ' 2 s)
+        (omega (
+          arith,
+          mul-le-mul-left whole (folded-at-most k s j (omega arith)),
+          mul-le-mul ρ≤1 (folded-at-most k s (suc j) (omega arith)),
+        ))

@@ -1,10 +1,11 @@
 -- Laws of fractions and basis points.
 -- Assumes nothing.
-use Prim.Native.Nat.{ℕ, _+_, _*_, _^_, _≤_, _<_}
+use Prim.Native.Nat.{ℕ, zero, suc, _+_, _*_, _^_, _≤_, _<_}
 use mathlib.Core.Path.{_≡_, ap}
-use native.Mathlib.Nat.{add-sub-of-le, mul-le-mul, mul-le-mul-right, mul-lt-mul-of-pos-right}
+use native.Mathlib.Nat.{add-sub-of-le, sub-le, pow-succ', mul-le-mul, mul-le-mul-right, mul-lt-mul-of-pos-right}
 use native.Mathlib.Nat.{eq-of-mul-eq-mul-right, le-of-mul-le-mul-right, lt-of-mul-lt-mul-right}
 use native.Mathlib.Omega.{arith}
+use lib.Dec.{lit≤}
 use lib.Pow.{pow-add}
 use Rattle.model.specs.Fraction.{Fraction, Same, AtMost, Less, plus, times, divided, whole, complement, over}
 
@@ -103,6 +104,18 @@ divided-same m above e = mono-same (λ x y. divided x m above) (λ x y v w l k. 
 pub complement-law : {x : ℕ} → x ≤ whole → x + complement x ≡ whole
 unfolding complement
 complement-law l = add-sub-of-le l
+
+pub complement-at-most : (x : ℕ) → complement x ≤ whole
+unfolding complement
+complement-at-most x = sub-le whole x
+
+-- 10,000 is below 2^14.
+pub whole-digits : (t : ℕ) → whole ^ t ≤ 2 ^ (14 * t)
+unfolding whole
+whole-digits zero = lit≤ tt
+whole-digits (suc t) =
+    let more : 14 * suc t ≡ 14 + 14 * t = omega arith in
+    rw (pow-succ' whole t, more, pow-add 2 14 (14 * t)) (mul-le-mul (lit≤ tt) (whole-digits t))
 
 -- n / 10,000^t by another number of powers.
 pub over-same : (x y t u : ℕ) → x * whole ^ u ≡ y * whole ^ t → Same (over x t) (over y u)

@@ -1,22 +1,20 @@
 -- That the exponents stay in their range.
 -- Assumes nothing.
-use Prim.Native.Nat.{ℕ, zero, suc, _+_, _-_, _*_, _^_, _≤_, _<_, min}
-use mathlib.Core.Path.{_≡_, ap}
+use Prim.Native.Nat.{ℕ, suc, _+_, _-_, _*_, _^_, _≤_, _<_, min}
 use native.Mathlib.Omega.{arith}
-use native.Mathlib.Nat.{add-zero, add-suc, sub-le, le-refl, le-trans, le-of-lt, mul-le-mul, mul-le-mul-left, mul-le-mul-right, pow-zero, pow-suc, pow-succ', pow-le-pow-left}
+use native.Mathlib.Nat.{le-refl, le-trans, le-of-lt, mul-le-mul, mul-le-mul-left, pow-zero, pow-suc, pow-succ', pow-le-pow-left}
 use lib.Dec.{lit≤, leb→le, le→leb}
 use lib.IntN.{ℤ, pos, negsuc, natAbs}
 use lib.Pow.{pow-add}
 use lib.Signed.{_≤ℤ_}
 use Rattle.model.specs.Number.{choose, triangle}
 use Rattle.model.specs.Number.Laws.{choose-at-most, triangle-mono}
-use Rattle.model.specs.Fraction.{Fraction, certainty, integer, times, whole, complement, over}
-use Rattle.model.specs.Passes.{folded}
+use Rattle.model.specs.Fraction.{Fraction, integer, times, whole, over}
+use Rattle.model.specs.Fraction.Laws.{complement-at-most, whole-digits}
 use Rattle.model.specs.Passes.Laws.{passed-folded}
-use Rattle.model.specs.Chances.{Chances, Complete, share, tailNumerator, tail, lossUnits, lossNumerator, expectedLoss}
-use Rattle.model.specs.Chances.Laws.{tail-next, tail-at-most-one, loss-units-at-most, loss-none, loss-next}
-use Rattle.model.specs.CorrelatedBinomial.{conditional, joint, passStep, rowEntry}
-use Rattle.model.specs.CorrelatedBinomial.Rows.{row-last, conditional-complement, row-at-most}
+use Rattle.model.specs.Chances.{Chances, Complete, share, tail, lossUnits, expectedLoss}
+use Rattle.model.specs.Chances.Laws.{tail-at-most, chance-at-most, loss-units-at-most, loss-at-most}
+use Rattle.model.specs.CorrelatedBinomial.Rows.{row-at-most, conditional-at-most, weight-at-most, joint-at-most, folded-at-most}
 use Rattle.kept.specs.declared.Kept.{Kept}
 use Rattle.kept.specs.declared.Side.{Side}
 use Rattle.kept.specs.Rounding.{Operand, ofInteger}
@@ -69,18 +67,6 @@ once l = omega arith
 
 -- ---- steps 1 to 3
 
--- 10,000 is below 2^14.
-pub whole-digits : (t : ℕ) → whole ^ t ≤ 2 ^ (14 * t)
-unfolding whole
-whole-digits zero = lit≤ tt
-whole-digits (suc t) =
-    let more : 14 * suc t ≡ 14 + 14 * t = omega arith in
-    rw (pow-succ' whole t, more, pow-add 2 14 (14 * t)) (mul-le-mul (lit≤ tt) (whole-digits t))
-
-complement-at-most : (x : ℕ) → complement x ≤ whole
-unfolding complement
-complement-at-most x = sub-le whole x
-
 module _ (side : Side) {n p ρ : ℕ} (room : Room n) (p≤1 : p ≤ whole) (ρ≤1 : ρ ≤ whole) where
   -- A value of at most 2^c over a power of 10,000.
   over-ranged : {b N : ℕ} {x : Kept} (t c : ℕ) → Made side b x (over N t) → b ≤ rowBudget (suc n) → t ≤ triangle (suc n) + 1
@@ -95,25 +81,6 @@ module _ (side : Side) {n p ρ : ℕ} (room : Room n) (p≤1 : p ≤ whole) (ρ�
   constant-ranged {x} l =
       over-ranged 1 0 (constant-made side x) (omega arith) (omega arith) (once (rw (pow-suc whole 0, pow-zero whole) (omega arith))) (omega arith)
 
-  conditional-product-at-most : (k : ℕ) → conditional p ρ k * complement ρ ≤ whole ^ suc (suc k)
-  conditional-product-at-most k =
-      rw (pow-suc whole (suc k)) (mul-le-mul (omega (arith, conditional-complement p ρ p≤1 ρ≤1 k)) (complement-at-most ρ))
-
-  joint-at-most : (k : ℕ) → joint p ρ k ≤ whole ^ triangle k
-  joint-at-most k = rw (← row-last p ρ k) (row-at-most p ρ p≤1 ρ≤1 k k (le-refl k))
-
-  -- A pass at most doubles an entry.
-  folded-at-most : (k s j : ℕ) → j + s ≤ k → folded (passStep ρ) s (rowEntry p ρ k) j ≤ whole ^ (triangle k + s) * 2 ^ s
-  unfolding folded passStep
-  folded-at-most k zero j l = rw (add-zero (triangle k)) (once (row-at-most p ρ p≤1 ρ≤1 k j (omega arith)))
-  folded-at-most k (suc s) j l =
-      rw (add-suc (triangle k) s, pow-succ' whole (triangle k + s), pow-succ' 2 s)
-      (omega (
-        arith,
-        mul-le-mul-left whole (folded-at-most k s j (omega arith)),
-        mul-le-mul ρ≤1 (folded-at-most k s (suc j) (omega arith)),
-      ))
-
   pub rows-ranged : {x : Kept} → RowNumber side n p ρ x → Ranged x
   unfolding rowBudget triangle
   rows-ranged is-p = constant-ranged p≤1
@@ -121,32 +88,33 @@ module _ (side : Side) {n p ρ : ℕ} (room : Room n) (p≤1 : p ≤ whole) (ρ�
   rows-ranged is-ρ = constant-ranged ρ≤1
   rows-ranged is-q = constant-ranged (complement-at-most ρ)
   rows-ranged (is-conditional-product k l) =
-      over-ranged (suc (suc k)) 0 (conditional-product-made side p ρ k (conditional-made side p ρ k)) (omega arith) (omega arith) (once (conditional-product-at-most k)) (omega arith)
+      over-ranged (suc (suc k)) 0 (conditional-product-made side p ρ k (conditional-made side p ρ k)) (omega arith) (omega arith)
+      (once (rw (pow-suc whole (suc k)) (mul-le-mul (conditional-at-most p ρ p≤1 ρ≤1 k) (complement-at-most ρ)))) (omega arith)
   rows-ranged (is-conditional k l) =
       over-ranged (suc k) 0 (conditional-made side p ρ k) (omega arith) (omega arith)
-      (once (omega (arith, conditional-complement p ρ p≤1 ρ≤1 k))) (omega arith)
+      (once (conditional-at-most p ρ p≤1 ρ≤1 k)) (omega arith)
   rows-ranged (is-joint k l) =
       let smaller = triangle-mono l in
-      over-ranged (triangle (suc k)) 0 (joint-made side p ρ k) (omega arith) (omega arith) (once (joint-at-most (suc k))) (omega arith)
+      over-ranged (triangle (suc k)) 0 (joint-made side p ρ k) (omega arith) (omega arith) (once (joint-at-most p ρ p≤1 ρ≤1 (suc k))) (omega arith)
   rows-ranged (is-power j l) =
       over-ranged j 0 (power-made side p ρ j) (omega arith) (omega arith) (once (pow-le-pow-left (complement-at-most ρ) j)) (omega arith)
   rows-ranged (is-weight j l) =
       over-ranged (suc j) 0 (weight-made side p ρ j) (omega arith) (omega arith)
-      (once (omega (arith, conditional-complement p ρ p≤1 ρ≤1 j))) (omega arith)
+      (once (weight-at-most p ρ p≤1 ρ≤1 j)) (omega arith)
   rows-ranged (is-passed k s j l m) =
       let passes : ℕ = min s (suc k - suc j) in
       let reached : j + passes ≤ k = omega arith in
       let smaller = triangle-mono l in
       rw (passed-folded (keptPassStep side ρ) (keptRow side p ρ k) (suc k) s j)
       (over-ranged (triangle k + passes) passes (folded-made side p ρ k passes j reached) (omega arith) (omega arith)
-      (folded-at-most k passes j reached) (omega arith))
+      (folded-at-most p ρ p≤1 ρ≤1 k passes j reached) (omega arith))
   rows-ranged (is-pass-product k s j l m) =
       let passes : ℕ = min s (suc k - suc j) in
       let reached : j + passes ≤ k = omega arith in
       let smaller = triangle-mono l in
       rw (passed-folded (keptPassStep side ρ) (keptRow side p ρ k) (suc k) s j)
       (over-ranged (suc (triangle k + passes)) passes (pass-product-made side ρ _ (triangle k + passes) (folded-made side p ρ k passes j reached)) (omega arith) (omega arith)
-      (rw (pow-succ' whole (triangle k + passes)) (omega (arith, mul-le-mul ρ≤1 (folded-at-most k passes j reached)))) (omega arith))
+      (rw (pow-succ' whole (triangle k + passes)) (omega (arith, mul-le-mul ρ≤1 (folded-at-most p ρ p≤1 ρ≤1 k passes j reached)))) (omega arith))
   rows-ranged (is-entry k j l m) =
       let smaller = triangle-mono l in
       over-ranged (triangle k) 0 (row-made side p ρ k j m) (omega arith) (omega arith) (once (row-at-most p ρ p≤1 ρ≤1 k j m)) (omega arith)
@@ -165,41 +133,21 @@ chances-ranged {n} {m} v made at-most den parts digits values (is-chance j l) =
 -- ---- steps 5 and 6, for a row of chances in general
 
 module _ {b : ℕ} {r : Chances} {c : Side → ℕ → Kept} (bounded : Bounded b r c) (complete : Complete r) where
-  tail-at-most : (k : ℕ) → tailNumerator r k ≤ r .denominator
-  unfolding tail share certainty
-  tail-at-most k = omega (arith, tail-at-most-one r complete k .cross)
-
-  numerator-at-most : {X : ℕ} → X ≤ r .assets → r .numerator X ≤ r .denominator
-  numerator-at-most {X} l = omega (arith, tail-next r l, tail-at-most X)
-
-  -- The loss of fewer than k defaults, with all units lost from k on.
-  loss-and-tail : (R A B k : ℕ) → k ≤ suc (r .assets)
-      → lossNumerator r R A B k + tailNumerator r k * ((B - A) * r .assets) ≤ r .denominator * ((B - A) * r .assets)
-  loss-and-tail R A B zero l = omega (arith, loss-none r R A B, mul-le-mul-right ((B - A) * r .assets) (tail-at-most 0))
-  loss-and-tail R A B (suc k) l =
-      omega (
-        arith,
-        loss-and-tail R A B k (omega arith),
-        loss-next r R A B k,
-        mul-le-mul-left (r .numerator k) (loss-units-at-most (r .assets) R A B k),
-        ap (λ z. z * ((B - A) * r .assets)) (tail-next r {k = k} (omega arith)),
-      )
-
   module _
       (side : Side) (R A B m : ℕ) (narrow : (B - A) * r .assets < 2 ^ 32)
       (parts : lossBudget (r .assets) b * 2 ≤ precision) (den : r .denominator ≤ 2 ^ m) (digits : m + 32 ≤ 79968) where
     pub totals-ranged : {x : Kept} → TotalNumber side (r .assets) (c side) R A B x → Ranged x
     unfolding lossBudget share tail expectedLoss
     totals-ranged (is-tail k l) =
-        made-ranged (tail-total-made bounded side k l) (omega arith) m 0 den (omega arith) (once (tail-at-most (suc (r .assets) - k))) (lit≤ tt)
+        made-ranged (tail-total-made bounded side k l) (omega arith) m 0 den (omega arith) (once (tail-at-most r complete (suc (r .assets) - k))) (lit≤ tt)
     totals-ranged (is-units X l) =
         integer-ranged side (lossUnits (r .assets) R A B X) 32 (omega (arith, loss-units-at-most (r .assets) R A B X)) (lit≤ tt)
     totals-ranged (is-term X l) =
         made-ranged (term-made bounded side R A B narrow X l) (omega arith) m 32 den (omega arith)
-        (mul-le-mul (numerator-at-most l) (omega (arith, loss-units-at-most (r .assets) R A B X))) (lit≤ tt)
+        (mul-le-mul (chance-at-most r complete l) (omega (arith, loss-units-at-most (r .assets) R A B X))) (lit≤ tt)
     totals-ranged (is-total k l) =
         made-ranged (loss-total-made bounded side R A B narrow k l) (omega arith) m 32 den (omega arith)
-        (omega (arith, loss-and-tail R A B k l, mul-le-mul-left (r .denominator) (le-of-lt narrow))) (lit≤ tt)
+        (omega (arith, loss-at-most r R A B complete l, mul-le-mul-left (r .denominator) (le-of-lt narrow))) (lit≤ tt)
     totals-ranged (is-loss wide) =
         made-ranged (loss-made bounded side R A B narrow wide) (omega arith) (m + 32) 0 (rw (pow-add 2 m 32) (mul-le-mul den (le-of-lt narrow))) digits
-        (once (omega (arith, loss-and-tail R A B (suc (r .assets)) (le-refl (suc (r .assets)))))) (lit≤ tt)
+        (once (loss-at-most r R A B complete (le-refl (suc (r .assets))))) (lit≤ tt)

@@ -8,6 +8,7 @@ use lib.Dec.{lit<, lit≤}
 use Rattle.model.specs.Number.{triangle}
 use Rattle.model.specs.Number.Laws.{triangle-mono}
 use Rattle.model.specs.Fraction.{whole, integer, plus, times, over, certainty}
+use Rattle.model.specs.Fraction.Laws.{whole-digits}
 use Rattle.model.specs.Chances.{share, chance, Complete}
 use Rattle.model.specs.CorrelatedBinomial.{probability, defaults}
 use Rattle.model.specs.CorrelatedBinomial.Theorems.{probability-at-most-one, defaults-complete}
@@ -25,7 +26,7 @@ use Rattle.steps.specs.Enclosure.Laws.{made-enclosed, made-same}
 use Rattle.steps.specs.Column.{unitsOfCertainty, printedTail, printedRow, tenths, PrintsTails, PrintsColumn}
 use Rattle.steps.specs.Column.Laws.{printed-tails, column-of-tails, column-weaken}
 use Rattle.steps.specs.Exponents.{Ranged, Room}
-use Rattle.steps.specs.Exponents.Laws.{whole-digits, rows-ranged, chances-ranged, totals-ranged}
+use Rattle.steps.specs.Exponents.Laws.{rows-ranged, chances-ranged, totals-ranged}
 use Rattle.steps.specs.Loss.{lossAnswer, Says}
 use Rattle.steps.specs.Loss.Laws.{tranche-says}
 use Rattle.steps.specs.Pool.{largestPool, keptDefaults, keptPoolTail, keptPoolLoss, poolLoss, poolBudget, PoolEnclosed, PoolNumber, of-rows, of-chances, of-totals}

@@ -1,6 +1,6 @@
 -- `add` meets its contract.
 -- Assumes nothing.
-use Prim.Native.Nat.{_+_, _*_, _%_, _^_, _≤_, _<_}
+use Prim.Native.Nat.{_+_, _*_, _%_, _^_, _<_}
 use mathlib.Core.Path.{_≡_, _∙_}
 use borrow.Author.Needs.{needs}
 use native.Mathlib.Nat.{mod-eq-of-lt}
