@@ -5,7 +5,7 @@ use Rattle.model.specs.Fraction.{Fraction}
 use Rattle.kept.specs.declared.Kept.{Kept}
 use Rattle.kept.specs.declared.Side.{Side}
 use Rattle.kept.specs.declared.Side.the-variants.{Low, High}
-use Rattle.kept.specs.Rounding.{OnSide, value}
+use Rattle.kept.specs.Rounding.{IsKept, OnSide, value}
 pub mod Laws
 pub mod Exponents
 
@@ -22,8 +22,9 @@ abbrev pub Near : Side → ℕ → Fraction → Fraction → Type 0
 Near Low n x v = Le n v x
 Near High n x v = Le n x v
 
--- A kept number x of one side against the exact value v.
+-- A kept number x of one side against the exact value v: on its side, and within n parts.
 pub record Bound (side : Side) (n : ℕ) (x : Kept) (v : Fraction) : Type 0 where
+  pub kept : IsKept x
   pub order : OnSide side (value x) v
   pub near : Near side n (value x) v
 

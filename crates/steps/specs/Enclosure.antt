@@ -6,7 +6,7 @@ use Rattle.model.specs.Fraction.{Fraction, AtMost, integer, plus, times}
 use Rattle.model.specs.Chances.{Chances, chance}
 use Rattle.kept.specs.declared.Kept.{Kept}
 use Rattle.kept.specs.declared.Side.{Side}
-use Rattle.kept.specs.Rounding.{IsKept, value, nought}
+use Rattle.kept.specs.Rounding.{value, nought}
 use Rattle.kept.specs.Accuracy.{Bound}
 pub mod Laws
 
@@ -19,11 +19,6 @@ pub record Enclosed (g : ℕ) (low high : Kept) (v : Fraction) : Type 0 where
   -- An exact zero has zero on both sides.
   pub of-zero : v .num ≡ 0 → (low ≡ nought) × (high ≡ nought)
 
--- A kept number x made on one side, within b parts of the exact value v.
-pub record Made (side : Side) (b : ℕ) (x : Kept) (v : Fraction) : Type 0 where
-  pub kept : IsKept x
-  pub bound : Bound side b x v
-
 -- Chances c of either side, each within b parts of that of the row r.
 pub record Bounded (b : ℕ) (r : Chances) (c : Side → ℕ → Kept) : Type 0 where
-  pub made : (side : Side) (j : ℕ) → j ≤ r .assets → Made side b (c side j) (chance r j)
+  pub bound : (side : Side) (j : ℕ) → j ≤ r .assets → Bound side b (c side j) (chance r j)

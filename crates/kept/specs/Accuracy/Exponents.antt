@@ -12,7 +12,7 @@ use Rattle.model.specs.Fraction.{Fraction}
 use Rattle.kept.specs.declared.Kept.{Kept}
 use Rattle.kept.specs.declared.Side.{Side}
 use Rattle.kept.specs.declared.Side.the-variants.{Low, High}
-use Rattle.kept.specs.Rounding.{IsKept, Normal, nought, scaled, value}
+use Rattle.kept.specs.Rounding.{Normal, nought, scaled, value}
 use Rattle.kept.specs.Rounding.Laws.{normal-positive}
 use Rattle.kept.specs.Accuracy.{precision, Le, Bound}
 use Rattle.kept.specs.Accuracy.Laws.{le-of-at-most, le-weaken}
@@ -43,11 +43,11 @@ exponent-twice {s} n (negsuc k) {v} low high m c den num =
     (record { le = le→leb k (m + 31) (omega arith) }, record { le = tt })
 
 -- The value is at most 2^c, over a denominator of at most 2^m, and the number is not as much as half away from it.
-pub bound-exponent : {side : Side} {b : ℕ} {x : Kept} {v : Fraction} → IsKept x → Bound side b x v → b * 2 ≤ precision
+pub bound-exponent : {side : Side} {b : ℕ} {x : Kept} {v : Fraction} → Bound side b x v → b * 2 ≤ precision
     → (m c : ℕ) → v .den ≤ 2 ^ m → v .num ≤ v .den * 2 ^ c
     → (negsuc (m + 31) ≤ℤ x .exponent) × (x .exponent ≤ℤ pos c)
 unfolding nought
-bound-exponent {x} kept bound parts m c den num = elim (kept .form) [
+bound-exponent {x} bound parts m c den num = elim (bound .kept .form) [
   | inl is ↦ rw is (record { le = tt }, record { le = le→leb 0 c (omega arith) })
   | inr normal ↦ let twice = bound-twice parts bound in exponent-twice normal (x .exponent) (twice .0) (twice .1) m c den num
 ]

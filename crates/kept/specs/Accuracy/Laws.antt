@@ -14,7 +14,7 @@ use Rattle.model.specs.Fraction.Laws.{same-sym, at-most-of-same, at-most-trans,
 use Rattle.kept.specs.declared.Kept.{Kept}
 use Rattle.kept.specs.declared.Side.{Side}
 use Rattle.kept.specs.declared.Side.the-variants.{Low, High}
-use Rattle.kept.specs.Rounding.{OnSide, Normal, scaled, value, round, roundedProduct, roundedSum, roundedQuotient, ofInteger, ofBasisPoints}
+use Rattle.kept.specs.Rounding.{OnSide, Normal, IsKept, scaled, value, round, roundedProduct, roundedSum, roundedQuotient, ofInteger, ofBasisPoints}
 use Rattle.kept.specs.Rounding.Leading.{Adjacent, nought-same}
 use Rattle.kept.specs.Rounding.Laws.{round-rounded, round-nought, round-adjacent}
 use Rattle.kept.specs.Accuracy.{precision, Le, Near, Bound, Fine}
@@ -81,20 +81,22 @@ le-divided m above l = omega (arith, mul-le-mul-right m (l .cross))
 
 -- ---- the relation Bound
 
-pub bound-exact : {side : Side} {x : Kept} {v : Fraction} → Same (value x) v → Bound side 0 x v
-bound-exact {side = Low} e = record { order = at-most-of-same e; near = le-of-at-most (at-most-of-same (same-sym e)) }
-bound-exact {side = High} e = record { order = at-most-of-same (same-sym e); near = le-of-at-most (at-most-of-same e) }
+pub bound-exact : {side : Side} {x : Kept} {v : Fraction} → IsKept x → Same (value x) v → Bound side 0 x v
+bound-exact {side = Low} kept e = record { kept = kept; order = at-most-of-same e; near = le-of-at-most (at-most-of-same (same-sym e)) }
+bound-exact {side = High} kept e = record { kept = kept; order = at-most-of-same (same-sym e); near = le-of-at-most (at-most-of-same e) }
 
 pub bound-weaken : {side : Side} {n m : ℕ} {x : Kept} {v : Fraction} → n ≤ m → Bound side n x v → Bound side m x v
-bound-weaken {side = Low} l b = record { order = b .order; near = le-weaken l (b .near) }
-bound-weaken {side = High} l b = record { order = b .order; near = le-weaken l (b .near) }
+bound-weaken {side = Low} l b = record { kept = b .kept; order = b .order; near = le-weaken l (b .near) }
+bound-weaken {side = High} l b = record { kept = b .kept; order = b .order; near = le-weaken l (b .near) }
 
 pub bound-same : {side : Side} {n : ℕ} {x : Kept} {v w : Fraction} → Same v w → Bound side n x v → Bound side n x w
 bound-same {side = Low} e b = record {
+  kept = b .kept;
   order = at-most-trans (b .order) (at-most-of-same e);
   near = le-weaken (omega arith) (le-transitive (le-of-at-most (at-most-of-same (same-sym e))) (b .near));
 }
 bound-same {side = High} e b = record {
+  kept = b .kept;
   order = at-most-trans (at-most-of-same (same-sym e)) (b .order);
   near = le-weaken (omega arith) (le-transitive (b .near) (le-of-at-most (at-most-of-same e)));
 }
@@ -126,7 +128,7 @@ round-on-side : (side : Side) (z : Fraction) → OnSide side (value (round side 
 round-on-side side z = round-rounded side z .on-side
 
 pub bound-round : (side : Side) (z : Fraction) → Bound side 1 (round side z) z
-bound-round side z = record { order = round-on-side side z; near = round-near side z }
+bound-round side z = record { kept = round-rounded side z .kept; order = round-on-side side z; near = round-near side z }
 
 pub bound-integer : (side : Side) (n : ℕ) → Bound side 1 (ofInteger side n) (integer n)
 unfolding ofInteger
@@ -146,10 +148,12 @@ bound-operation :
     {side : Side} {n m k : ℕ} {f : Fraction → Fraction → Fraction} {x y : Kept} {v w : Fraction}
     → Operation n m k f → Bound side n x v → Bound side m y w → Bound side (k + 1) (round side (f (value x) (value y))) (f v w)
 bound-operation {side = Low} law b c = record {
+  kept = round-rounded Low _ .kept;
   order = at-most-trans (round-on-side Low _) (law .order (b .order) (c .order));
   near = le-transitive (law .near (b .near) (c .near)) (round-near Low _);
 }
 bound-operation {side = High} law b c = record {
+  kept = round-rounded High _ .kept;
   order = at-most-trans (law .order (b .order) (c .order)) (round-on-side High _);
   near = le-weaken (omega arith) (le-transitive (round-near High _) (law .near (b .near) (c .near)));
 }

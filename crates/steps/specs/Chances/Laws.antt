@@ -13,19 +13,20 @@ use Rattle.model.specs.Chances.Laws.{tail-next, tail-past, loss-none, loss-next
 use Rattle.kept.specs.declared.Kept.{Kept}
 use Rattle.kept.specs.declared.Side.{Side}
 use Rattle.kept.specs.declared.Side.the-variants.{Low, High}
-use Rattle.kept.specs.Accuracy.{Fine}
-use Rattle.kept.specs.Accuracy.Laws.{bound-exact}
+use Rattle.kept.specs.Accuracy.{Bound, Fine}
+use Rattle.kept.specs.Accuracy.Laws.{bound-exact, bound-weaken, bound-same, bound-integer, bound-product, bound-sum, bound-quotient}
 use Rattle.kept.specs.Rounding.{IsKept, value, round, roundedProduct, ofInteger}
-use Rattle.kept.specs.Rounding.Laws.{round-cong, quotient-is, integer-is, integer-exact}
-use Rattle.steps.specs.Enclosure.{Enclosed, Made, Bounded}
-use Rattle.steps.specs.Enclosure.Laws.{made-enclosed, made-weaken, made-same, made-nought, made-integer, made-product, made-sum, made-quotient}
+use Rattle.kept.specs.Rounding.Leading.{nought-same}
+use Rattle.kept.specs.Rounding.Laws.{nought-kept, round-cong, quotient-is, integer-is, integer-exact}
+use Rattle.steps.specs.Enclosure.{Enclosed, Bounded}
+use Rattle.steps.specs.Enclosure.Laws.{bound-enclosed}
 use Rattle.steps.specs.Chances.{keptTotal, keptChance, keptTail, keptTerm, keptLoss, chanceBudget, tailBudget, lossBudget}
 
 -- Step 4, for any exact value v of entry j.
-pub chance-made : {side : Side} {b : ℕ} {entry : Kept} {v : Fraction} (n j : ℕ)
-    → Made side b entry v → Made side (chanceBudget b) (keptChance side n j entry) (times (integer (choose n j)) v)
+pub chance-bound : {side : Side} {b : ℕ} {entry : Kept} {v : Fraction} (n j : ℕ)
+    → Bound side b entry v → Bound side (chanceBudget b) (keptChance side n j entry) (times (integer (choose n j)) v)
 unfolding chanceBudget keptChance
-chance-made {side} n j m = made-weaken (omega arith) (made-product (made-integer side (choose n j)) m)
+chance-bound {side} n j m = bound-weaken (omega arith) (bound-product (bound-integer side (choose n j)) m)
 
 -- Loss units below 2^32 are kept as they are.
 units-exact : (side : Side) (n R A B X : ℕ) → (B - A) * n < 2 ^ 32 → Same (value (ofInteger side (lossUnits n R A B X))) (integer (lossUnits n R A B X))
@@ -41,77 +42,75 @@ pub term-once : (side : Side) (n : ℕ) (c : ℕ → Kept) (R A B X : ℕ) → (
 unfolding keptTerm roundedProduct
 term-once side n c R A B X narrow = round-cong side (times-same same-refl (units-exact side n R A B X narrow))
 
--- A total of shares of one row: x 0 = 0 and x (m + 1) = x m + t m up to the last, each t i made within b parts.
+-- A total of shares of one row: x 0 = 0 and x (m + 1) = x m + t m up to the last, each f i within b parts of t i.
 module _ (side : Side) {b : ℕ} (r : Chances) (f : ℕ → Kept) (x t : ℕ → ℕ) (last : ℕ) where
-  total-made : x 0 ≡ 0 → ((i : ℕ) → i < last → x (suc i) ≡ x i + t i) → ((i : ℕ) → i < last → Made side b (f i) (share r (t i)))
-      → (m : ℕ) → m ≤ last → Made side (b + m) (keptTotal side f m) (share r (x m))
+  total-bound : x 0 ≡ 0 → ((i : ℕ) → i < last → x (suc i) ≡ x i + t i) → ((i : ℕ) → i < last → Bound side b (f i) (share r (t i)))
+      → (m : ℕ) → m ≤ last → Bound side (b + m) (keptTotal side f m) (share r (x m))
   unfolding keptTotal share plus
-  total-made none next made zero l = made-weaken (omega arith) (made-nought side (share r (x 0)) none)
-  total-made none next made (suc m) l =
-      let before : Made side (b + m) (keptTotal side f m) (share r (x m)) = total-made none next made m (omega arith) in
+  total-bound none next bound zero l = bound-weaken (omega arith) (bound-exact nought-kept (nought-same (share r (x 0)) none))
+  total-bound none next bound (suc m) l =
+      let before : Bound side (b + m) (keptTotal side f m) (share r (x m)) = total-bound none next bound m (omega arith) in
       let same : Same (plus (share r (x m)) (share r (t m))) (share r (x (suc m))) =
       omega (arith, ap (λ z. z * r .denominator * r .denominator) (next m l)) in
-      made-weaken (omega arith) (made-same same (made-sum before (made-weaken (omega arith) (made m l))))
+      bound-weaken (omega arith) (bound-same same (bound-sum before (bound-weaken (omega arith) (bound m l))))
 
 module _ {b : ℕ} {r : Chances} {c : Side → ℕ → Kept} (bounded : Bounded b r c) (side : Side) where
   -- The total of the last m chances.
-  pub tail-total-made : (m : ℕ) → m ≤ suc (r .assets)
-      → Made side (b + m) (keptTotal side (λ i. c side (r .assets - i)) m) (tail r (suc (r .assets) - m))
+  pub tail-total-bound : (m : ℕ) → m ≤ suc (r .assets)
+      → Bound side (b + m) (keptTotal side (λ i. c side (r .assets - i)) m) (tail r (suc (r .assets) - m))
   unfolding tail chance
-  tail-total-made =
+  tail-total-bound =
       let n : ℕ = r .assets in
-      total-made side r (λ i. c side (n - i)) (λ m. tailNumerator r (suc n - m)) (λ i. r .numerator (n - i)) (suc n)
+      total-bound side r (λ i. c side (n - i)) (λ m. tailNumerator r (suc n - m)) (λ i. r .numerator (n - i)) (suc n)
       (tail-past r (omega arith))
       (λ i l.
       let here : suc n - i ≡ suc (n - i) = omega arith in
       rw (here, suc-sub-suc n i) (omega (arith, tail-next r {k = n - i} (omega arith))))
-      (λ i l. bounded .made side (n - i) (omega arith))
+      (λ i l. bounded .bound side (n - i) (omega arith))
 
-  pub tail-made : (k : ℕ) → Made side (tailBudget (r .assets) b) (keptTail side (r .assets) (c side) k) (tail r k)
+  pub tail-bound : (k : ℕ) → Bound side (tailBudget (r .assets) b) (keptTail side (r .assets) (c side) k) (tail r k)
   unfolding tailBudget keptTail tail
-  tail-made k =
+  tail-bound k =
       let n : ℕ = r .assets in
       let reached : tailNumerator r (suc n - (suc n - k)) ≡ tailNumerator r k = elim (decLe k n) [
         | yes l ↦ let back : suc n - (suc n - k) ≡ k = omega arith in ap (tailNumerator r) back
         | no l ↦ omega (arith, tail-past r {k = suc n - (suc n - k)} (omega arith), tail-past r {k = k} (omega arith))
       ] in
-      made-weaken (omega arith) (rw reached at (tail-total-made (suc n - k) (omega arith)))
+      bound-weaken (omega arith) (rw reached at (tail-total-bound (suc n - k) (omega arith)))
 
   module _ (R A B : ℕ) (narrow : (B - A) * r .assets < 2 ^ 32) where
-    pub term-made : (X : ℕ) → X ≤ r .assets
-        → Made side (b + 1) (keptTerm side (r .assets) (c side) R A B X) (share r (r .numerator X * lossUnits (r .assets) R A B X))
+    pub term-bound : (X : ℕ) → X ≤ r .assets
+        → Bound side (b + 1) (keptTerm side (r .assets) (c side) R A B X) (share r (r .numerator X * lossUnits (r .assets) R A B X))
     unfolding keptTerm chance share times integer
-    term-made X l =
+    term-bound X l =
         let units : ℕ = lossUnits (r .assets) R A B X in
-        let exact : Made side 0 (ofInteger side units) (integer units) = record {
-          kept = integer-is side units .kept;
-          bound = bound-exact (units-exact side (r .assets) R A B X narrow);
-        } in
-        made-weaken (omega arith) (made-same (omega arith) (made-product (bounded .made side X l) exact))
+        let exact : Bound side 0 (ofInteger side units) (integer units) =
+        bound-exact (integer-is side units .kept) (units-exact side (r .assets) R A B X narrow) in
+        bound-weaken (omega arith) (bound-same (omega arith) (bound-product (bounded .bound side X l) exact))
 
-    pub loss-total-made : (m : ℕ) → m ≤ suc (r .assets)
-        → Made side (b + 1 + m) (keptTotal side (keptTerm side (r .assets) (c side) R A B) m) (share r (lossNumerator r R A B m))
-    loss-total-made =
+    pub loss-total-bound : (m : ℕ) → m ≤ suc (r .assets)
+        → Bound side (b + 1 + m) (keptTotal side (keptTerm side (r .assets) (c side) R A B) m) (share r (lossNumerator r R A B m))
+    loss-total-bound =
         let n : ℕ = r .assets in
-        total-made side r (keptTerm side n (c side) R A B) (lossNumerator r R A B) (λ X. r .numerator X * lossUnits n R A B X) (suc n)
+        total-bound side r (keptTerm side n (c side) R A B) (lossNumerator r R A B) (λ X. r .numerator X * lossUnits n R A B X) (suc n)
         (loss-none r R A B)
         (λ i l. loss-next r R A B i)
-        (λ i l. term-made i (omega arith))
+        (λ i l. term-bound i (omega arith))
 
-    pub loss-made : (wide : 0 < (B - A) * r .assets)
-        → Made side (lossBudget (r .assets) b) (keptLoss side (r .assets) (c side) R A B wide) (expectedLoss r R A B wide)
+    pub loss-bound : (wide : 0 < (B - A) * r .assets)
+        → Bound side (lossBudget (r .assets) b) (keptLoss side (r .assets) (c side) R A B wide) (expectedLoss r R A B wide)
     unfolding lossBudget keptLoss expectedLoss share divided
-    loss-made wide = made-quotient ((B - A) * r .assets) wide (loss-total-made (suc (r .assets)) (le-refl (suc (r .assets))))
+    loss-bound wide = bound-quotient ((B - A) * r .assets) wide (loss-total-bound (suc (r .assets)) (le-refl (suc (r .assets))))
 
 -- Both bounds of each.
 module _ {g b : ℕ} {r : Chances} {c : Side → ℕ → Kept} (bounded : Bounded b r c) where
   pub chance-enclosed : Fine g b → {j : ℕ} → j ≤ r .assets → Enclosed g (c Low j) (c High j) (chance r j)
-  chance-enclosed fine {j} l = made-enclosed fine (bounded .made Low j l) (bounded .made High j l)
+  chance-enclosed fine {j} l = bound-enclosed fine (bounded .bound Low j l) (bounded .bound High j l)
 
   pub tail-enclosed : Fine g (tailBudget (r .assets) b) → (k : ℕ)
       → Enclosed g (keptTail Low (r .assets) (c Low) k) (keptTail High (r .assets) (c High) k) (tail r k)
-  tail-enclosed fine k = made-enclosed fine (tail-made bounded Low k) (tail-made bounded High k)
+  tail-enclosed fine k = bound-enclosed fine (tail-bound bounded Low k) (tail-bound bounded High k)
 
   pub loss-enclosed : Fine g (lossBudget (r .assets) b) → (R A B : ℕ) → (B - A) * r .assets < 2 ^ 32 → (wide : 0 < (B - A) * r .assets)
       → Enclosed g (keptLoss Low (r .assets) (c Low) R A B wide) (keptLoss High (r .assets) (c High) R A B wide) (expectedLoss r R A B wide)
-  loss-enclosed fine R A B narrow wide = made-enclosed fine (loss-made bounded Low R A B narrow wide) (loss-made bounded High R A B narrow wide)
+  loss-enclosed fine R A B narrow wide = bound-enclosed fine (loss-bound bounded Low R A B narrow wide) (loss-bound bounded High R A B narrow wide)

@@ -20,7 +20,7 @@ use Rattle.kept.specs.Accuracy.{precision, Bound}
 use Rattle.kept.specs.Accuracy.Laws.{precision-positive}
 use Rattle.steps.specs.Enclosure.{Bounded}
 use Rattle.steps.specs.Chances.{keptTotal, keptTail, tailBudget}
-use Rattle.steps.specs.Chances.Laws.{tail-made}
+use Rattle.steps.specs.Chances.Laws.{tail-bound}
 use Rattle.steps.specs.Column.{unitsOfCertainty, inUnits, printedTail, exactUnits, PrintsTails, Within, PrintsColumn}
 
 -- ---- the column
@@ -182,4 +182,4 @@ module _ {N : ℕ} (r : Chances) (c : ℕ → Kept) (low : (k : ℕ) → Bound L
 pub printed-tails : {b : ℕ} {r : Chances} {c : Side → ℕ → Kept} {below : Fraction} → Bounded b r c → Complete r
     → (precision + unitsOfCertainty * tailBudget (r .assets) b) * below .den ≤ below .num * precision
     → PrintsTails (integer 0) below r (printedTail (r .assets) (c Low))
-printed-tails {r} {c} {below} bounded complete slack = printed-of-low r (c Low) (λ k. tail-made bounded Low k .bound) complete below slack
+printed-tails {r} {c} {below} bounded complete slack = printed-of-low r (c Low) (λ k. tail-bound bounded Low k) complete below slack

@@ -18,14 +18,14 @@ use Rattle.model.specs.CorrelatedBinomial.Rows.{row-at-most, conditional-at-mos
 use Rattle.kept.specs.declared.Kept.{Kept}
 use Rattle.kept.specs.declared.Side.{Side}
 use Rattle.kept.specs.Rounding.{Operand, ofInteger}
-use Rattle.kept.specs.Accuracy.{precision}
+use Rattle.kept.specs.Accuracy.{precision, Bound}
+use Rattle.kept.specs.Accuracy.Laws.{bound-integer}
 use Rattle.kept.specs.Accuracy.Exponents.{bound-exponent}
-use Rattle.steps.specs.Enclosure.{Made, Bounded}
-use Rattle.steps.specs.Enclosure.Laws.{made-integer}
+use Rattle.steps.specs.Enclosure.{Bounded}
 use Rattle.steps.specs.Rows.{constant, keptPassStep, keptRow, rowBudget}
-use Rattle.steps.specs.Rows.Laws.{constant-made, conditional-product-made, conditional-made, joint-made, power-made, weight-made, folded-made, pass-product-made, row-made}
+use Rattle.steps.specs.Rows.Laws.{constant-bound, conditional-product-bound, conditional-bound, joint-bound, power-bound, weight-bound, folded-bound, pass-product-bound, row-bound}
 use Rattle.steps.specs.Chances.{chanceBudget, lossBudget}
-use Rattle.steps.specs.Chances.Laws.{chance-made, tail-total-made, term-made, loss-total-made, loss-made}
+use Rattle.steps.specs.Chances.Laws.{chance-bound, tail-total-bound, term-bound, loss-total-bound, loss-bound}
 use Rattle.steps.specs.Exponents.{Ranged, RowNumber, ChanceNumber, TotalNumber, Room}
 use Rattle.steps.specs.Exponents.{is-p, is-a, is-ρ, is-q, is-conditional-product, is-conditional, is-joint, is-power, is-weight, is-passed, is-pass-product, is-entry}
 use Rattle.steps.specs.Exponents.{is-count, is-chance, is-tail, is-units, is-term, is-total, is-loss}
@@ -39,12 +39,12 @@ weaken-most {a} {b} l (pos k) most = record { le = le→leb k b (le-trans (leb�
 weaken-most l (negsuc k) most = record { le = tt }
 
 -- A number close to an exact value of at most 2^c over a denominator of at most 2^m.
-pub made-ranged : {side : Side} {b : ℕ} {x : Kept} {v : Fraction} → Made side b x v → b * 2 ≤ precision
+pub bound-ranged : {side : Side} {b : ℕ} {x : Kept} {v : Fraction} → Bound side b x v → b * 2 ≤ precision
     → (m c : ℕ) → v .den ≤ 2 ^ m → m ≤ 79968 → v .num ≤ v .den * 2 ^ c → c ≤ 100 → Ranged x
-made-ranged {x} made parts m c den digits num values =
-    let exponent = bound-exponent (made .kept) (made .bound) parts m c den num in
+bound-ranged {x} bound parts m c den digits num values =
+    let exponent = bound-exponent bound parts m c den num in
     record {
-      kept = made .kept;
+      kept = bound .kept;
       least = weaken-least (omega arith) (x .exponent) (exponent .0);
       most = weaken-most values (x .exponent) (exponent .1);
     }
@@ -59,7 +59,7 @@ ranged-operand {x} r = record { kept = r .kept; reach = record { within = within
 
 integer-ranged : (side : Side) (x c : ℕ) → x ≤ 2 ^ c → c ≤ 100 → Ranged (ofInteger side x)
 unfolding integer precision
-integer-ranged side x c num values = made-ranged (made-integer side x) (lit≤ tt) 0 c (lit≤ tt) (lit≤ tt) (omega (arith, num)) values
+integer-ranged side x c num values = bound-ranged (bound-integer side x) (lit≤ tt) 0 c (lit≤ tt) (lit≤ tt) (omega (arith, num)) values
 
 -- What is at most one is at most 2^0.
 once : {x y : ℕ} → x ≤ y → x ≤ y * 2 ^ 0
@@ -69,17 +69,17 @@ once l = omega arith
 
 module _ (side : Side) {n p ρ : ℕ} (room : Room n) (p≤1 : p ≤ whole) (ρ≤1 : ρ ≤ whole) where
   -- A value of at most 2^c over a power of 10,000.
-  over-ranged : {b N : ℕ} {x : Kept} (t c : ℕ) → Made side b x (over N t) → b ≤ rowBudget (suc n) → t ≤ triangle (suc n) + 1
+  over-ranged : {b N : ℕ} {x : Kept} (t c : ℕ) → Bound side b x (over N t) → b ≤ rowBudget (suc n) → t ≤ triangle (suc n) + 1
       → N ≤ whole ^ t * 2 ^ c → c ≤ n → Ranged x
   unfolding over
-  over-ranged t c made parts digits num values =
-      made-ranged made (omega (arith, room .parts)) (14 * t) c (whole-digits t) (omega (arith, room .places)) num (omega (arith, room .passes))
+  over-ranged t c bound parts digits num values =
+      bound-ranged bound (omega (arith, room .parts)) (14 * t) c (whole-digits t) (omega (arith, room .places)) num (omega (arith, room .passes))
 
   -- One of p, a, ρ and q.
   constant-ranged : {x : ℕ} → x ≤ whole → Ranged (constant side x)
   unfolding rowBudget triangle
   constant-ranged {x} l =
-      over-ranged 1 0 (constant-made side x) (omega arith) (omega arith) (once (rw (pow-suc whole 0, pow-zero whole) (omega arith))) (omega arith)
+      over-ranged 1 0 (constant-bound side x) (omega arith) (omega arith) (once (rw (pow-suc whole 0, pow-zero whole) (omega arith))) (omega arith)
 
   pub rows-ranged : {x : Kept} → RowNumber side n p ρ x → Ranged x
   unfolding rowBudget triangle
@@ -88,47 +88,47 @@ module _ (side : Side) {n p ρ : ℕ} (room : Room n) (p≤1 : p ≤ whole) (ρ�
   rows-ranged is-ρ = constant-ranged ρ≤1
   rows-ranged is-q = constant-ranged (complement-at-most ρ)
   rows-ranged (is-conditional-product k l) =
-      over-ranged (suc (suc k)) 0 (conditional-product-made side p ρ k (conditional-made side p ρ k)) (omega arith) (omega arith)
+      over-ranged (suc (suc k)) 0 (conditional-product-bound side p ρ k (conditional-bound side p ρ k)) (omega arith) (omega arith)
       (once (rw (pow-suc whole (suc k)) (mul-le-mul (conditional-at-most p ρ p≤1 ρ≤1 k) (complement-at-most ρ)))) (omega arith)
   rows-ranged (is-conditional k l) =
-      over-ranged (suc k) 0 (conditional-made side p ρ k) (omega arith) (omega arith)
+      over-ranged (suc k) 0 (conditional-bound side p ρ k) (omega arith) (omega arith)
       (once (conditional-at-most p ρ p≤1 ρ≤1 k)) (omega arith)
   rows-ranged (is-joint k l) =
       let smaller = triangle-mono l in
-      over-ranged (triangle (suc k)) 0 (joint-made side p ρ k) (omega arith) (omega arith) (once (joint-at-most p ρ p≤1 ρ≤1 (suc k))) (omega arith)
+      over-ranged (triangle (suc k)) 0 (joint-bound side p ρ k) (omega arith) (omega arith) (once (joint-at-most p ρ p≤1 ρ≤1 (suc k))) (omega arith)
   rows-ranged (is-power j l) =
-      over-ranged j 0 (power-made side p ρ j) (omega arith) (omega arith) (once (pow-le-pow-left (complement-at-most ρ) j)) (omega arith)
+      over-ranged j 0 (power-bound side p ρ j) (omega arith) (omega arith) (once (pow-le-pow-left (complement-at-most ρ) j)) (omega arith)
   rows-ranged (is-weight j l) =
-      over-ranged (suc j) 0 (weight-made side p ρ j) (omega arith) (omega arith)
+      over-ranged (suc j) 0 (weight-bound side p ρ j) (omega arith) (omega arith)
       (once (weight-at-most p ρ p≤1 ρ≤1 j)) (omega arith)
   rows-ranged (is-passed k s j l m) =
       let passes : ℕ = min s (suc k - suc j) in
       let reached : j + passes ≤ k = omega arith in
       let smaller = triangle-mono l in
       rw (passed-folded (keptPassStep side ρ) (keptRow side p ρ k) (suc k) s j)
-      (over-ranged (triangle k + passes) passes (folded-made side p ρ k passes j reached) (omega arith) (omega arith)
+      (over-ranged (triangle k + passes) passes (folded-bound side p ρ k passes j reached) (omega arith) (omega arith)
       (folded-at-most p ρ p≤1 ρ≤1 k passes j reached) (omega arith))
   rows-ranged (is-pass-product k s j l m) =
       let passes : ℕ = min s (suc k - suc j) in
       let reached : j + passes ≤ k = omega arith in
       let smaller = triangle-mono l in
       rw (passed-folded (keptPassStep side ρ) (keptRow side p ρ k) (suc k) s j)
-      (over-ranged (suc (triangle k + passes)) passes (pass-product-made side ρ _ (triangle k + passes) (folded-made side p ρ k passes j reached)) (omega arith) (omega arith)
+      (over-ranged (suc (triangle k + passes)) passes (pass-product-bound side ρ _ (triangle k + passes) (folded-bound side p ρ k passes j reached)) (omega arith) (omega arith)
       (rw (pow-succ' whole (triangle k + passes)) (omega (arith, mul-le-mul ρ≤1 (folded-at-most p ρ p≤1 ρ≤1 k passes j reached)))) (omega arith))
   rows-ranged (is-entry k j l m) =
       let smaller = triangle-mono l in
-      over-ranged (triangle k) 0 (row-made side p ρ k j m) (omega arith) (omega arith) (once (row-at-most p ρ p≤1 ρ≤1 k j m)) (omega arith)
+      over-ranged (triangle k) 0 (row-bound side p ρ k j m) (omega arith) (omega arith) (once (row-at-most p ρ p≤1 ρ≤1 k j m)) (omega arith)
 
 -- ---- step 4, from entries that bound values of at most one
 
 pub chances-ranged : {side : Side} {n b m : ℕ} {entry : ℕ → Kept} (v : ℕ → Fraction)
-    → ((j : ℕ) → j ≤ n → Made side b (entry j) (v j)) → ((j : ℕ) → j ≤ n → v j .num ≤ v j .den) → ((j : ℕ) → j ≤ n → v j .den ≤ 2 ^ m)
+    → ((j : ℕ) → j ≤ n → Bound side b (entry j) (v j)) → ((j : ℕ) → j ≤ n → v j .num ≤ v j .den) → ((j : ℕ) → j ≤ n → v j .den ≤ 2 ^ m)
     → (b + 2) * 2 ≤ precision → m ≤ 79968 → n ≤ 100
     → {x : Kept} → ChanceNumber side n entry x → Ranged x
 unfolding integer times chanceBudget
-chances-ranged {side} {n} v made at-most den parts digits values (is-count j l) = integer-ranged side (choose n j) n (choose-at-most n j) values
-chances-ranged {n} {m} v made at-most den parts digits values (is-chance j l) =
-    made-ranged (chance-made n j (made j l)) parts m n (omega (arith, den j l)) digits (omega (arith, mul-le-mul (choose-at-most n j) (at-most j l))) values
+chances-ranged {side} {n} v bound at-most den parts digits values (is-count j l) = integer-ranged side (choose n j) n (choose-at-most n j) values
+chances-ranged {n} {m} v bound at-most den parts digits values (is-chance j l) =
+    bound-ranged (chance-bound n j (bound j l)) parts m n (omega (arith, den j l)) digits (omega (arith, mul-le-mul (choose-at-most n j) (at-most j l))) values
 
 -- ---- steps 5 and 6, for a row of chances in general
 
@@ -139,15 +139,15 @@ module _ {b : ℕ} {r : Chances} {c : Side → ℕ → Kept} (bounded : Bounded 
     pub totals-ranged : {x : Kept} → TotalNumber side (r .assets) (c side) R A B x → Ranged x
     unfolding lossBudget share tail expectedLoss
     totals-ranged (is-tail k l) =
-        made-ranged (tail-total-made bounded side k l) (omega arith) m 0 den (omega arith) (once (tail-at-most r complete (suc (r .assets) - k))) (lit≤ tt)
+        bound-ranged (tail-total-bound bounded side k l) (omega arith) m 0 den (omega arith) (once (tail-at-most r complete (suc (r .assets) - k))) (lit≤ tt)
     totals-ranged (is-units X l) =
         integer-ranged side (lossUnits (r .assets) R A B X) 32 (omega (arith, loss-units-at-most (r .assets) R A B X)) (lit≤ tt)
     totals-ranged (is-term X l) =
-        made-ranged (term-made bounded side R A B narrow X l) (omega arith) m 32 den (omega arith)
+        bound-ranged (term-bound bounded side R A B narrow X l) (omega arith) m 32 den (omega arith)
         (mul-le-mul (chance-at-most r complete l) (omega (arith, loss-units-at-most (r .assets) R A B X))) (lit≤ tt)
     totals-ranged (is-total k l) =
-        made-ranged (loss-total-made bounded side R A B narrow k l) (omega arith) m 32 den (omega arith)
+        bound-ranged (loss-total-bound bounded side R A B narrow k l) (omega arith) m 32 den (omega arith)
         (omega (arith, loss-at-most r R A B complete l, mul-le-mul-left (r .denominator) (le-of-lt narrow))) (lit≤ tt)
     totals-ranged (is-loss wide) =
-        made-ranged (loss-made bounded side R A B narrow wide) (omega arith) (m + 32) 0 (rw (pow-add 2 m 32) (mul-le-mul den (le-of-lt narrow))) digits
+        bound-ranged (loss-bound bounded side R A B narrow wide) (omega arith) (m + 32) 0 (rw (pow-add 2 m 32) (mul-le-mul den (le-of-lt narrow))) digits
         (once (loss-at-most r R A B complete (le-refl (suc (r .assets))))) (lit≤ tt)

@@ -16,13 +16,13 @@ use Rattle.kept.specs.declared.Kept.{Kept}
 use Rattle.kept.specs.declared.Side.{Side}
 use Rattle.kept.specs.declared.Side.the-variants.{Low, High}
 use Rattle.kept.specs.Accuracy.{precision, Fine}
-use Rattle.kept.specs.Accuracy.Laws.{fine-weaken}
+use Rattle.kept.specs.Accuracy.Laws.{bound-same, fine-weaken}
 use Rattle.steps.specs.Rows.{rowBudget}
-use Rattle.steps.specs.Rows.Laws.{entry-made}
+use Rattle.steps.specs.Rows.Laws.{entry-bound}
 use Rattle.steps.specs.Chances.{chanceBudget, tailBudget, lossBudget}
-use Rattle.steps.specs.Chances.Laws.{chance-made, chance-enclosed, tail-enclosed, loss-enclosed}
+use Rattle.steps.specs.Chances.Laws.{chance-bound, chance-enclosed, tail-enclosed, loss-enclosed}
 use Rattle.steps.specs.Enclosure.{Bounded}
-use Rattle.steps.specs.Enclosure.Laws.{made-enclosed, made-same}
+use Rattle.steps.specs.Enclosure.Laws.{bound-enclosed}
 use Rattle.steps.specs.Column.{unitsOfCertainty, printedTail, printedRow, tenths, PrintsTails, PrintsColumn}
 use Rattle.steps.specs.Column.Laws.{printed-tails, column-of-tails, column-weaken}
 use Rattle.steps.specs.Exponents.{Ranged, Room}
@@ -38,7 +38,7 @@ module _ (n p ρ : ℕ) (p≤1 : p ≤ whole) (ρ≤1 : ρ ≤ whole) where
   -- The chances that step 4 makes, against the model's.
   pub defaults-bounded : Bounded (chanceBudget (rowBudget n)) (defaults n p ρ) (λ side. keptDefaults side n p ρ)
   unfolding keptDefaults defaults chance share probability times integer over
-  defaults-bounded = record { made = λ side j l. made-same (omega arith) (chance-made n j (entry-made side p ρ p≤1 ρ≤1 l)) }
+  defaults-bounded = record { bound = λ side j l. bound-same (omega arith) (chance-bound n j (entry-bound side p ρ p≤1 ρ≤1 l)) }
 
   -- ---- with the number of assets and the distance left open
 
@@ -53,7 +53,7 @@ module _ (n p ρ : ℕ) (p≤1 : p ≤ whole) (ρ≤1 : ρ ≤ whole) where
     unfolding defaults poolLoss keptPoolLoss keptPoolTail poolBudget lossBudget tailBudget chanceBudget rowBudget
     pool-enclosed fine = record {
       entries = λ l m.
-          made-enclosed (fine-weaken (omega (arith, triangle-mono m)) fine) (entry-made Low p ρ p≤1 ρ≤1 l) (entry-made High p ρ p≤1 ρ≤1 l);
+          bound-enclosed (fine-weaken (omega (arith, triangle-mono m)) fine) (entry-bound Low p ρ p≤1 ρ≤1 l) (entry-bound High p ρ p≤1 ρ≤1 l);
       chances = chance-enclosed defaults-bounded (fine-weaken (omega arith) fine);
       tails = tail-enclosed defaults-bounded (fine-weaken (omega arith) fine);
       losses = λ R A B B≤1 wide. loss-enclosed defaults-bounded fine R A B (narrow A B B≤1) wide;
@@ -63,7 +63,7 @@ module _ (n p ρ : ℕ) (p≤1 : p ≤ whole) (ρ≤1 : ρ ≤ whole) where
     unfolding defaults probability over certainty lossBudget chanceBudget rowBudget triangle
     pool-ranged side R A B B≤1 (of-rows number) = rows-ranged side room p≤1 ρ≤1 number
     pool-ranged side R A B B≤1 (of-chances number) =
-        chances-ranged (λ j. probability p ρ j n) (λ j l. entry-made side p ρ p≤1 ρ≤1 l)
+        chances-ranged (λ j. probability p ρ j n) (λ j l. entry-bound side p ρ p≤1 ρ≤1 l)
         (λ j l. omega (arith, probability-at-most-one p ρ p≤1 ρ≤1 l .cross)) (λ j l. whole-digits (triangle n))
         (omega (arith, room .parts)) (omega (arith, room .places)) (room .passes) number
     pool-ranged side R A B B≤1 (of-totals number) =
