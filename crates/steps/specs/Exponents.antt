@@ -51,8 +51,8 @@ pub data TotalNumber (side : Side) (n : ℕ) (c : ℕ → Kept) (R A B : ℕ) : 
   is-total : (m : ℕ) → m ≤ suc n → TotalNumber side n c R A B (keptTotal side (keptTerm side n c R A B) m)
   is-loss : (wide : 0 < (B - A) * n) → TotalNumber side n c R A B (keptLoss side n c R A B wide)
 
--- What is asked of the number of assets: no number is as much as half away from its exact value, the denominators of exact values have no more than 79,968
--- binary digits, and there are no more than 100 passes.
+-- What is asked of the number of assets: every number is within half of the 2^31 parts of its exact value, no denominator of an exact value is above
+-- 2^79,968, and there are no more than 100 passes.
 pub record Room (n : ℕ) : Type 0 where
   pub parts : (rowBudget (suc n) + 2) * 2 ≤ precision
   pub places : 14 * (triangle (suc n) + 2) ≤ 79968

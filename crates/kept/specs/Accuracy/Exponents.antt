@@ -42,7 +42,7 @@ exponent-twice {s} n (negsuc k) {v} low high m c den num =
     lt-of-not-le (λ l. omega (arith, least, pow-mono l, pow-succ' 2 k, pow-add 2 m 32, mul-lt-mul-of-pos-right (n .below) (pow-pos m))) in
     (record { le = le→leb k (m + 31) (omega arith) }, record { le = tt })
 
--- The value is at most 2^c, over a denominator of at most 2^m, and the number is not as much as half away from it.
+-- The value is at most 2^c, over a denominator of at most 2^m, and the number is within half of the parts.
 pub bound-exponent : {side : Side} {b : ℕ} {x : Kept} {v : Fraction} → Bound side b x v → b * 2 ≤ precision
     → (m c : ℕ) → v .den ≤ 2 ^ m → v .num ≤ v .den * 2 ^ c
     → (negsuc (m + 31) ≤ℤ x .exponent) × (x .exponent ≤ℤ pos c)

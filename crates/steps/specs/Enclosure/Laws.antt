@@ -27,10 +27,7 @@ kept-of-zero : {x : Kept} → IsKept x → value x .num ≡ 0 → x ≡ nought
 kept-of-zero {x} kept none = kept-unique kept nought-kept (same-sym (nought-same (value x) none))
 
 at-most-zero : {x y : Fraction} → AtMost x y → y .num ≡ 0 → x .num ≡ 0
-at-most-zero {x} {y} l none = elim (eq-zero-or-pos (x .num)) [
-  | inl is ↦ is
-  | inr above ↦ absurd (omega (arith, mul-pos above (y .positive), l .cross, ap (λ z. z * x .den) none))
-]
+at-most-zero {x} {y} l none = mul-zero-right (y .positive) (omega (arith, l .cross, ap (λ z. z * x .den) none))
 
 pub bound-enclosed : {g b : ℕ} {low high : Kept} {v : Fraction} → Fine g b → Bound Low b low v → Bound High b high v → Enclosed g low high v
 unfolding times plus integer
