@@ -57,7 +57,7 @@ withoutSubtraction p ρ j k =
 unfoldable pub passStep : (ρ : ℕ) → ℕ → ℕ → ℕ
 passStep ρ x y = whole * x + ρ * y
 
--- Entry j of row k, over D^T(k), by the passes: row 0 is the single number one; row k+1 starts with the k + 1 entries of row k, and after its k passes
+-- Entry j of row k, over D^T(k), by the passes: row 0 has one entry, and that is one; row k+1 starts with the k + 1 entries of row k, and after its k passes
 -- entry j, for j up to k, is multiplied by a × q^j, and entry k + 1 is m_(k+1).
 pub rowEntry : (p ρ k j : ℕ) → ℕ
 rowEntry p ρ zero j = 1

@@ -18,31 +18,26 @@ use Rattle.kept.specs.Binary64.{leastShown, belowShown, toBinary64}
 use Rattle.steps.specs.Rows.{constant, keptConditional, keptJoint, keptPower, keptWeight, keptPassStep, keptRow}
 use Rattle.steps.specs.Chances.{keptTotal, keptChance, keptTail, keptTerm, keptLoss}
 use Rattle.steps.specs.Column.{unitsOfCertainty, inUnits, printedTail, printedRow}
-use Rattle.steps.specs.Loss.{untouched, faint, keptLeastShown, raisedToShown, lossAnswer}
+use Rattle.steps.specs.Pool.{keptDefaults, keptPoolTail, keptPoolLoss}
+use Rattle.steps.specs.Loss.{untouched, faint, shown, keptLeastShown, raisedToShown, lossAnswer}
 
 -- s × 2^−(n+1)
-abbrev pub figure : (s n : ℕ) → Kept
+abbrev figure : (s n : ℕ) → Kept
 figure s n = record { significand = s; exponent = negsuc n }
 
 -- The significands of the low and the high side, at one exponent.
-abbrev pub Digits : (Side → Kept) → (low high n : ℕ) → Type 0
+abbrev Digits : (Side → Kept) → (low high n : ℕ) → Type 0
 Digits x low high n = (x Low ≡ figure low n) × (x High ≡ figure high n)
 
--- Three assets: the chances, a tail, a tranche with recovery 4000, the printed rows and tails.
-abbrev pub threeChance : (p ρ : ℕ) (side : Side) (j : ℕ) → Kept
-threeChance p ρ side j = keptChance side 3 j (keptRow side p ρ 3 j)
+-- With p = 1000 and ρ = 3000: a tranche with recovery 4000, the printed rows and tails.
+abbrev threeLoss : (A B : ℕ) → 0 < (B - A) * 3 → (side : Side) → Kept
+threeLoss A B wide side = keptPoolLoss side 3 1000 3000 4000 A B wide
 
-abbrev pub threeTail : (p ρ k : ℕ) (side : Side) → Kept
-threeTail p ρ k side = keptTail side 3 (threeChance p ρ side) k
+abbrev threeRow : ℕ → ℕ
+threeRow k = printedRow 3 (keptDefaults Low 3 1000 3000) k
 
-abbrev pub threeLoss : (p ρ A B : ℕ) → 0 < (B - A) * 3 → (side : Side) → Kept
-threeLoss p ρ A B wide side = keptLoss side 3 (threeChance p ρ side) 4000 A B wide
-
-abbrev pub threeRow : (p ρ : ℕ) → ℕ → ℕ
-threeRow p ρ k = printedRow 3 (threeChance p ρ Low) k
-
-abbrev pub threePrinted : (p ρ : ℕ) → ℕ → ℕ
-threePrinted p ρ k = printedTail 3 (threeChance p ρ Low) k
+abbrev threeTail : ℕ → ℕ
+threeTail k = printedTail 3 (keptDefaults Low 3 1000 3000) k
 
 pub cases :
     Digits (λ side. keptRow side 1000 3000 1 0) 3865470566 3865470567 31
@@ -54,28 +49,29 @@ pub cases :
     × Digits (λ side. keptRow side 1000 3000 3 1) 3208031329 3208031338 35
     × Digits (λ side. keptRow side 1000 3000 3 2) 2242591400 2242591408 36
     × Digits (λ side. keptRow side 1000 3000 3 3) 2842649870 2842649879 36
-    × Digits (λ side. threeChance 1000 3000 side 0) 3394385664 3394385672 31
-    × Digits (λ side. threeChance 1000 3000 side 1) 2406023496 2406023504 33
-    × Digits (λ side. threeChance 1000 3000 side 2) 3363887100 3363887112 35
-    × Digits (λ side. threeChance 1000 3000 side 3) 2842649870 2842649879 36
-    × Digits (threeTail 1000 3000 1) 3602326504 3602326517 33
-    × Digits (threeTail 1000 3000 2) 2392606017 2392606026 34
-    × Digits (threeTail 1000 3000 3) 2842649870 2842649879 36
-    × Digits (threeLoss 1000 3000 1000 3000 (lit< tt)) 2399314755 2399314766 33
-    × (threeRow 1000 3000 0 ≡ 79032)
-    × (threeRow 1000 3000 1 ≡ 14005)
-    × (threeRow 1000 3000 2 ≡ 4895)
-    × (threeRow 1000 3000 3 ≡ 2068)
-    × (threePrinted 1000 3000 0 ≡ 100000)
-    × (threePrinted 1000 3000 1 ≡ 20968)
-    × (threePrinted 1000 3000 2 ≡ 6963)
-    × (threePrinted 1000 3000 3 ≡ 2068)
+    × Digits (λ side. keptDefaults side 3 1000 3000 0) 3394385664 3394385672 31
+    × Digits (λ side. keptDefaults side 3 1000 3000 1) 2406023496 2406023504 33
+    × Digits (λ side. keptDefaults side 3 1000 3000 2) 3363887100 3363887112 35
+    × Digits (λ side. keptDefaults side 3 1000 3000 3) 2842649870 2842649879 36
+    × Digits (λ side. keptPoolTail side 3 1000 3000 1) 3602326504 3602326517 33
+    × Digits (λ side. keptPoolTail side 3 1000 3000 2) 2392606017 2392606026 34
+    × Digits (λ side. keptPoolTail side 3 1000 3000 3) 2842649870 2842649879 36
+    × Digits (threeLoss 1000 3000 (lit< tt)) 2399314755 2399314766 33
+    × (threeRow 0 ≡ 79032)
+    × (threeRow 1 ≡ 14005)
+    × (threeRow 2 ≡ 4895)
+    × (threeRow 3 ≡ 2068)
+    × (threeTail 0 ≡ 100000)
+    × (threeTail 1 ≡ 20968)
+    × (threeTail 2 ≡ 6963)
+    × (threeTail 3 ≡ 2068)
     -- Here the order of the sums shows in the last digit.
-    × Digits (threeTail 500 500 1) 2337669897 2337669905 33
-    -- A tranche that no default reaches; a bound of 2^−870 alone.
-    × (lossAnswer (threeLoss 1000 3000 6000 10000 (lit< tt) Low) (threeLoss 1000 3000 6000 10000 (lit< tt) High) ≡ untouched)
+    × Digits (λ side. keptPoolTail side 3 500 500 1) 2337669897 2337669905 33
+    -- A tranche that defaults reach, one that none reaches, and a high bound of 2^−870 with a low bound of zero.
+    × (lossAnswer (threeLoss 1000 3000 (lit< tt) Low) (threeLoss 1000 3000 (lit< tt) High) ≡ shown (toBinary64 (figure 2399314755 33)) (toBinary64 (figure 2399314766 33)))
+    × (lossAnswer (threeLoss 6000 10000 (lit< tt) Low) (threeLoss 6000 10000 (lit< tt) High) ≡ untouched)
     × (lossAnswer nought (figure 2147483648 900) ≡ faint (toBinary64 keptLeastShown))
-unfolding scaled nought unity step carry round roundedProduct roundedSum roundedQuotient ofInteger ofBasisPoints size choose cut raise integer plus times divided whole complement over pass passed lossUnits constant keptConditional keptJoint keptPower keptWeight keptPassStep keptRow keptTotal keptChance keptTail keptTerm keptLoss unitsOfCertainty inUnits printedTail printedRow leastShown belowShown keptLeastShown raisedToShown lossAnswer
+unfolding scaled nought unity step carry round roundedProduct roundedSum roundedQuotient ofInteger ofBasisPoints size choose cut raise integer plus times divided whole complement over pass passed lossUnits constant keptConditional keptJoint keptPower keptWeight keptPassStep keptRow keptTotal keptChance keptTail keptTerm keptLoss unitsOfCertainty inUnits printedTail printedRow keptDefaults keptPoolTail keptPoolLoss leastShown belowShown keptLeastShown raisedToShown lossAnswer
 cases = (
   (refl, refl),
   (refl, refl),
@@ -103,6 +99,7 @@ cases = (
   refl,
   refl,
   (refl, refl),
+  refl,
   refl,
   refl,
 )

@@ -26,7 +26,7 @@ module _ (side : Side) where
       keptTail k = keptTotal (λ i. c (n - i)) (suc n - k)
 
       module _ (R A B : ℕ) where
-        -- Step 6: the product of the chance of X defaults and its loss units. The units are below 2^32, so that they are a kept number as they are.
+        -- Step 6: the product of the chance of X defaults and its loss units. Units below 2^32 are a kept number as they are: `term-once`.
         unfoldable pub keptTerm : ℕ → Kept
         keptTerm X = roundedProduct side (c X) (ofInteger side (lossUnits n R A B X))
 

@@ -12,7 +12,7 @@ use Rattle.kept.specs.Rounding.{value}
 use Rattle.steps.specs.Chances.{keptTail}
 pub mod Laws
 
--- A unit (the scope paper's term) is one part in 100,000 of certainty.
+-- Certainty in units, the scope paper's term for the parts that a column is printed in.
 unfoldable pub unitsOfCertainty : ℕ
 unitsOfCertainty = 100000
 
@@ -21,7 +21,7 @@ unfoldable pub inUnits : Kept → ℕ
 inUnits x = unitsOfCertainty * value x .num / value x .den
 
 module _ (n : ℕ) (c : ℕ → Kept) where
-  -- The printed tail at k: 100,000 times the low tail, rounded down; at 0 it is 100,000.
+  -- The printed tail at k: the low tail in whole units. That at 0 is certainty.
   unfoldable pub printedTail : ℕ → ℕ
   printedTail zero = unitsOfCertainty
   printedTail (suc k) = inUnits (keptTail Low n c (suc k))

@@ -43,17 +43,20 @@ pub data ChanceNumber (side : Side) (n : ℕ) (entry : ℕ → Kept) : Kept → 
   is-count : (j : ℕ) → j ≤ n → ChanceNumber side n entry (ofInteger side (choose n j))
   is-chance : (j : ℕ) → j ≤ n → ChanceNumber side n entry (keptChance side n j (entry j))
 
--- Every number that steps 5 and 6 make for n assets from chances c.
-pub data TotalNumber (side : Side) (n : ℕ) (c : ℕ → Kept) (R A B : ℕ) : Kept → Type 0 where
-  is-tail : (m : ℕ) → m ≤ suc n → TotalNumber side n c R A B (keptTotal side (λ i. c (n - i)) m)
-  is-units : (X : ℕ) → X ≤ n → TotalNumber side n c R A B (ofInteger side (lossUnits n R A B X))
-  is-term : (X : ℕ) → X ≤ n → TotalNumber side n c R A B (keptTerm side n c R A B X)
-  is-total : (m : ℕ) → m ≤ suc n → TotalNumber side n c R A B (keptTotal side (keptTerm side n c R A B) m)
-  is-loss : (wide : 0 < (B - A) * n) → TotalNumber side n c R A B (keptLoss side n c R A B wide)
+-- Every number that step 5 makes for n assets from chances c.
+pub data TailNumber (side : Side) (n : ℕ) (c : ℕ → Kept) : Kept → Type 0 where
+  is-tail : (m : ℕ) → m ≤ suc n → TailNumber side n c (keptTotal side (λ i. c (n - i)) m)
+
+-- Every number that step 6 makes for a tranche on n assets from chances c.
+pub data LossNumber (side : Side) (n : ℕ) (c : ℕ → Kept) (R A B : ℕ) : Kept → Type 0 where
+  is-units : (X : ℕ) → X ≤ n → LossNumber side n c R A B (ofInteger side (lossUnits n R A B X))
+  is-term : (X : ℕ) → X ≤ n → LossNumber side n c R A B (keptTerm side n c R A B X)
+  is-total : (m : ℕ) → m ≤ suc n → LossNumber side n c R A B (keptTotal side (keptTerm side n c R A B) m)
+  is-loss : (wide : 0 < (B - A) * n) → LossNumber side n c R A B (keptLoss side n c R A B wide)
 
 -- What is asked of the number of assets: every number is within half of the 2^31 parts of its exact value, no denominator of an exact value is above
--- 2^79,968, and there are no more than 100 passes.
+-- 2^79,968, and neither the passes nor the counts of orders bring a value above 2^100.
 pub record Room (n : ℕ) : Type 0 where
   pub parts : (rowBudget (suc n) + 2) * 2 ≤ precision
   pub places : 14 * (triangle (suc n) + 2) ≤ 79968
-  pub passes : n ≤ 100
+  pub assets : n ≤ 100

@@ -10,7 +10,7 @@ use Rattle.kept.specs.declared.Side.the-variants.{Low, High}
 use Rattle.steps.specs.Rows.{keptRow, rowBudget}
 use Rattle.steps.specs.Chances.{keptChance, keptTail, keptLoss, chanceBudget, lossBudget}
 use Rattle.steps.specs.Enclosure.{Enclosed}
-use Rattle.steps.specs.Exponents.{RowNumber, ChanceNumber, TotalNumber}
+use Rattle.steps.specs.Exponents.{RowNumber, ChanceNumber, TailNumber, LossNumber}
 pub mod Theorems
 
 -- The largest number of assets.
@@ -21,21 +21,22 @@ largestPool = 64
 unfoldable pub keptDefaults : (side : Side) (n p ρ : ℕ) → ℕ → Kept
 keptDefaults side n p ρ j = keptChance side n j (keptRow side p ρ n j)
 
--- The largest budget that a pool of n assets reaches: that of a tranche loss.
-unfoldable pub poolBudget : ℕ → ℕ
-poolBudget n = lossBudget n (chanceBudget (rowBudget n))
+-- The tail at k, by step 5.
+unfoldable pub keptPoolTail : (side : Side) (n p ρ k : ℕ) → Kept
+keptPoolTail side n p ρ k = keptTail side n (keptDefaults side n p ρ) k
 
--- The exact expected loss of a tranche, and its bounds by step 6.
+-- The expected loss of a tranche, by step 6.
+unfoldable pub keptPoolLoss : (side : Side) (n p ρ R A B : ℕ) → 0 < (B - A) * n → Kept
+keptPoolLoss side n p ρ R A B wide = keptLoss side n (keptDefaults side n p ρ) R A B wide
+
+-- Its exact value.
 unfoldable pub poolLoss : (n p ρ R A B : ℕ) → 0 < (B - A) * n → Fraction
 unfolding defaults
 poolLoss n p ρ R A B wide = expectedLoss (defaults n p ρ) R A B wide
 
-unfoldable pub keptPoolLoss : (side : Side) (n p ρ R A B : ℕ) → 0 < (B - A) * n → Kept
-keptPoolLoss side n p ρ R A B wide = keptLoss side n (keptDefaults side n p ρ) R A B wide
-
--- The tail at k by step 5.
-unfoldable pub keptPoolTail : (side : Side) (n p ρ k : ℕ) → Kept
-keptPoolTail side n p ρ k = keptTail side n (keptDefaults side n p ρ) k
+-- The budget of a tranche loss, the largest among those of entries, chances, tails and losses.
+unfoldable pub poolBudget : ℕ → ℕ
+poolBudget n = lossBudget n (chanceBudget (rowBudget n))
 
 -- Enclosure and distance of all that the steps make for a pool: bounds at most one part in g apart.
 pub record PoolEnclosed (g n p ρ : ℕ) : Type 0 where
@@ -49,8 +50,9 @@ pub record PoolEnclosed (g n p ρ : ℕ) : Type 0 where
   pub losses : (R A B : ℕ) → B ≤ whole → (wide : 0 < (B - A) * n)
       → Enclosed g (keptPoolLoss Low n p ρ R A B wide) (keptPoolLoss High n p ρ R A B wide) (poolLoss n p ρ R A B wide)
 
--- Every number that steps 1 to 6 make for a pool and a tranche.
-pub data PoolNumber (side : Side) (n p ρ R A B : ℕ) : Kept → Type 0 where
-  of-rows : {x : Kept} → RowNumber side n p ρ x → PoolNumber side n p ρ R A B x
-  of-chances : {x : Kept} → ChanceNumber side n (keptRow side p ρ n) x → PoolNumber side n p ρ R A B x
-  of-totals : {x : Kept} → TotalNumber side n (keptDefaults side n p ρ) R A B x → PoolNumber side n p ρ R A B x
+-- Every number that the steps make for a pool, and for each tranche on it.
+pub data PoolNumber (side : Side) (n p ρ : ℕ) : Kept → Type 0 where
+  of-rows : {x : Kept} → RowNumber side n p ρ x → PoolNumber side n p ρ x
+  of-chances : {x : Kept} → ChanceNumber side n (keptRow side p ρ n) x → PoolNumber side n p ρ x
+  of-tails : {x : Kept} → TailNumber side n (keptDefaults side n p ρ) x → PoolNumber side n p ρ x
+  of-losses : {x : Kept} (R A B : ℕ) → B ≤ whole → LossNumber side n (keptDefaults side n p ρ) R A B x → PoolNumber side n p ρ x

@@ -22,7 +22,7 @@ module _ (side : Side) where
   keptConditional p ρ zero = constant p
   keptConditional p ρ (suc k) = roundedSum side (roundedProduct side (keptConditional p ρ k) (constant (complement ρ))) (constant ρ)
 
-  -- m_(k+1). m_1 is p_1; each next is the product of the one before and its p.
+  -- m_(k+1). m_1 is p_1; each next is the product of the one before and the p of its own index.
   unfoldable pub keptJoint : (p ρ k : ℕ) → Kept
   keptJoint p ρ zero = keptConditional p ρ zero
   keptJoint p ρ (suc k) = roundedProduct side (keptJoint p ρ k) (keptConditional p ρ (suc k))
@@ -40,7 +40,7 @@ module _ (side : Side) where
   unfoldable pub keptPassStep : (ρ : ℕ) → Kept → Kept → Kept
   keptPassStep ρ x y = roundedSum side x (roundedProduct side (constant ρ) y)
 
-  -- Entry j of row k. Row 0 is the single number one. Row k + 1 starts with the k + 1 entries of row k; after its passes 1 to k, entry j for j up to k
+  -- Entry j of row k. Row 0 has one entry, and that is one. Row k + 1 starts with the k + 1 entries of row k; after its passes 1 to k, entry j for j up to k
   -- is multiplied by g_j, and entry k + 1 is m_(k+1).
   unfoldable pub keptRow : (p ρ k j : ℕ) → Kept
   keptRow p ρ zero j = unity

@@ -241,27 +241,28 @@ module _ (side : Side) where
 
 -- A whole number below 2^32 is kept as it is: its digits moved up to 32.
 module _ (n : ℕ) (above : 0 < n) (below : n < 2 ^ 32) where
-  abbrev moved : ℕ
-  moved = 32 - size n
+  -- How many of the 32 digits it leaves free.
+  abbrev free : ℕ
+  free = 32 - size n
 
   exact : Kept
-  exact = record { significand = n * 2 ^ moved; exponent = pos 0 -ℤ pos moved }
+  exact = record { significand = n * 2 ^ free; exponent = pos 0 -ℤ pos free }
 
   exact-same : Same (value exact) (integer n)
   unfolding exact integer scaled
-  exact-same = same-trans (same-sym (scaled-shift n (pos 0 -ℤ pos moved) moved (sym (-ℤ-+ℤ-cancel (pos 0) (pos moved))))) (record { cross = omega arith })
+  exact-same = same-trans (same-sym (scaled-shift n (pos 0 -ℤ pos free) free (sym (-ℤ-+ℤ-cancel (pos 0) (pos free))))) (record { cross = omega arith })
 
   exact-kept : IsKept exact
   unfolding exact
   exact-kept =
       let few : size n ≤ 32 = size-le n 32 below in
       let some : 0 < size n = lt-of-not-le (λ none. not-le-of-lt (lt-of-lt-of-le (size-lt n) (pow-mono none)) above) in
-      let digits : size n + moved ≡ 32 = omega arith in
-      let one-less : size n - 1 + moved ≡ 31 = omega arith in
+      let digits : size n + free ≡ 32 = omega arith in
+      let one-less : size n - 1 + free ≡ 31 = omega arith in
       record {
         form = inr (record {
-          least = omega (arith, ap (λ k. 2 ^ k) one-less, pow-add 2 (size n - 1) moved, mul-le-mul-right (2 ^ moved) (size-reaches n (size n - 1) (omega arith)));
-          below = omega (arith, ap (λ k. 2 ^ k) digits, pow-add 2 (size n) moved, mul-lt-mul-of-pos-right (size-lt n) (pow-pos moved));
+          least = omega (arith, ap (λ k. 2 ^ k) one-less, pow-add 2 (size n - 1) free, mul-le-mul-right (2 ^ free) (size-reaches n (size n - 1) (omega arith)));
+          below = omega (arith, ap (λ k. 2 ^ k) digits, pow-add 2 (size n) free, mul-lt-mul-of-pos-right (size-lt n) (pow-pos free));
         });
       }
 

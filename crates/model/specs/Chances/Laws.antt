@@ -5,7 +5,7 @@ use mathlib.Core.Path.{_≡_, refl, _∙_, ap}
 use mathlib.Core.Bool.{Bool, true, false, cond}
 use native.Mathlib.Omega.{arith}
 use native.Mathlib.Decide.{decLe}
-use native.Mathlib.Nat.{add-zero, zero-add, add-suc, sub-zero, add-sub-of-le, le-refl, le-trans, min-le-right, mul-le-mul-left, mul-le-mul-right}
+use native.Mathlib.Nat.{add-zero, zero-add, add-suc, sub-zero, add-sub-of-le, le-refl, le-trans, min-le-right, mul-pos, mul-le-mul-left, mul-le-mul-right}
 use lib.IntN.{pos, negsuc, _-ℤ_}
 use lib.Dec.{ltb}
 use borrow.Author.Tests.{ltb-true}
@@ -93,6 +93,10 @@ module _ (n R A B : ℕ) where
       rw (loss-units-whole n R A B X, loss-units-whole n R A B Y) (omega (arith, mul-le-mul-right (complement R) l))
 
 -- ---- expected loss
+
+-- A tranche on a pool that is not empty has a width.
+pub tranche-wide : {n A B : ℕ} → 0 < n → A < B → 0 < (B - A) * n
+tranche-wide some l = mul-pos (omega arith) some
 
 module _ (r : Chances) (R A B : ℕ) where
   pub loss-none : lossNumerator r R A B 0 ≡ 0

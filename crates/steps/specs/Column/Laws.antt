@@ -1,4 +1,4 @@
--- The three laws of the printed tail, and the column that follows from them alone, for a row of chances in general.
+-- The laws of the printed tail, and the column that follows from them alone, for a row of chances in general.
 -- Assumes nothing.
 use Prim.Native.Nat.{ℕ, zero, suc, _+_, _*_, _-_, _≤_, _<_}
 use mathlib.Core.Path.{_≡_, refl, ap}
@@ -21,7 +21,7 @@ use Rattle.kept.specs.Accuracy.Laws.{precision-positive}
 use Rattle.steps.specs.Enclosure.{Bounded}
 use Rattle.steps.specs.Chances.{keptTotal, keptTail, tailBudget}
 use Rattle.steps.specs.Chances.Laws.{tail-bound}
-use Rattle.steps.specs.Column.{unitsOfCertainty, inUnits, printedTail, exactUnits, PrintsTails, Within, PrintsColumn}
+use Rattle.steps.specs.Column.{unitsOfCertainty, inUnits, printedTail, printedRow, exactUnits, PrintsTails, Within, PrintsColumn}
 
 -- ---- the column
 
@@ -48,7 +48,7 @@ row-near {above} {below} {r} {t} p row k rows l =
     }
 
 -- The column of any printed tails: rows that are the differences of two tails.
-pub column-of-tails : {above below : Fraction} {r : Chances} {t : ℕ → ℕ} (rows : ℕ → ℕ) → PrintsTails above below r t
+column-of-tails : {above below : Fraction} {r : Chances} {t : ℕ → ℕ} (rows : ℕ → ℕ) → PrintsTails above below r t
     → ((k : ℕ) → rows k + t (suc k) ≡ t k) → PrintsColumn (plus above below) r t rows
 column-of-tails {r} rows p difference = record {
   difference = difference;
@@ -56,6 +56,12 @@ column-of-tails {r} rows p difference = record {
   total = omega (arith, p .past, p .at-zero, rows-total rows difference (suc (r .assets)));
   near = λ k. row-near p (rows k) k (difference k);
 }
+
+-- The printed rows are such differences.
+pub printed-column : {above below : Fraction} {r : Chances} (c : ℕ → Kept) → PrintsTails above below r (printedTail (r .assets) c)
+    → PrintsColumn (plus above below) r (printedTail (r .assets) c) (printedRow (r .assets) c)
+unfolding printedRow
+printed-column {r} c p = column-of-tails (printedRow (r .assets) c) p (λ k. omega (arith, p .falls k))
 
 -- A wider distance.
 pub column-weaken : {off off' : Fraction} {r : Chances} {t rows : ℕ → ℕ} → AtMost off off' → PrintsColumn off r t rows → PrintsColumn off' r t rows
@@ -83,7 +89,7 @@ units-certainty : Same (exactUnits certainty) (integer unitsOfCertainty)
 unfolding exactUnits times integer certainty
 units-certainty = omega arith
 
--- The units of x, rounded down, are not above x; one more is above it; none that is not above x is more.
+-- x in whole units is not above x; one unit more is above it; no greater whole number is at most x in units.
 in-units-at-most : (x : Kept) → AtMost (integer (inUnits x)) (exactUnits (value x))
 unfolding inUnits exactUnits times integer
 in-units-at-most x = omega (arith, div-mul-le-self (unitsOfCertainty * value x .num) (value x .den))

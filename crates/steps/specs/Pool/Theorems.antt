@@ -1,5 +1,5 @@
--- Demands 2 and 3 of the steps, for every pool of 1 to 64 assets, every default probability p and correlation ρ from 0 to 10,000, every recovery R and every
--- tranche A < B ≤ 10,000.
+-- Demands 2 and 3 of the steps, for every pool of up to 64 assets, every default probability p and correlation ρ from 0 to 10,000, every recovery R and every
+-- tranche with B ≤ 10,000 whose width (B − A) × n is above zero, which `tranche-wide` gives for A < B and a pool that is not empty.
 -- Assumes nothing.
 use Prim.Native.Nat.{ℕ, _-_, _*_, _^_, _≤_, _<_}
 use native.Mathlib.Omega.{arith}
@@ -24,12 +24,12 @@ use Rattle.steps.specs.Chances.Laws.{chance-bound, chance-enclosed, tail
 use Rattle.steps.specs.Enclosure.{Bounded}
 use Rattle.steps.specs.Enclosure.Laws.{bound-enclosed}
 use Rattle.steps.specs.Column.{unitsOfCertainty, printedTail, printedRow, tenths, PrintsTails, PrintsColumn}
-use Rattle.steps.specs.Column.Laws.{printed-tails, column-of-tails, column-weaken}
+use Rattle.steps.specs.Column.Laws.{printed-tails, printed-column, column-weaken}
 use Rattle.steps.specs.Exponents.{Ranged, Room}
-use Rattle.steps.specs.Exponents.Laws.{rows-ranged, chances-ranged, totals-ranged}
+use Rattle.steps.specs.Exponents.Laws.{rows-ranged, chances-ranged, tails-ranged, losses-ranged}
 use Rattle.steps.specs.Loss.{lossAnswer, Says}
 use Rattle.steps.specs.Loss.Laws.{tranche-says}
-use Rattle.steps.specs.Pool.{largestPool, keptDefaults, keptPoolTail, keptPoolLoss, poolLoss, poolBudget, PoolEnclosed, PoolNumber, of-rows, of-chances, of-totals}
+use Rattle.steps.specs.Pool.{largestPool, keptDefaults, keptPoolTail, keptPoolLoss, poolLoss, poolBudget, PoolEnclosed, PoolNumber, of-rows, of-chances, of-tails, of-losses}
 
 module _ (n p ρ : ℕ) (p≤1 : p ≤ whole) (ρ≤1 : ρ ≤ whole) where
   complete : Complete (defaults n p ρ)
@@ -46,7 +46,7 @@ module _ (n p ρ : ℕ) (p≤1 : p ≤ whole) (ρ≤1 : ρ ≤ whole) where
     -- Loss units are whole numbers below 2^32.
     narrow : (A B : ℕ) → B ≤ whole → (B - A) * n < 2 ^ 32
     unfolding whole
-    narrow A B B≤1 = let part : B - A ≤ whole = omega arith in omega (arith, mul-le-mul-right n part, room .passes)
+    narrow A B B≤1 = let part : B - A ≤ whole = omega arith in omega (arith, mul-le-mul-right n part, room .assets)
 
     -- Where two numbers at the pool's budget are at most one part in g apart, all bounds are.
     pub pool-enclosed : {g : ℕ} → Fine g (poolBudget n) → PoolEnclosed g n p ρ
@@ -59,35 +59,47 @@ module _ (n p ρ : ℕ) (p≤1 : p ≤ whole) (ρ≤1 : ρ ≤ whole) where
       losses = λ R A B B≤1 wide. loss-enclosed defaults-bounded fine R A B (narrow A B B≤1) wide;
     }
 
-    pub pool-ranged : (side : Side) (R A B : ℕ) → B ≤ whole → {x : Kept} → PoolNumber side n p ρ R A B x → Ranged x
+    -- What the answer to a tranche loss says.
+    pub pool-answer : {g : ℕ} → Fine g (poolBudget n) → (R A B : ℕ) → B ≤ whole → (wide : 0 < (B - A) * n)
+        → Says g (keptPoolLoss Low n p ρ R A B wide) (keptPoolLoss High n p ρ R A B wide) (poolLoss n p ρ R A B wide)
+        (lossAnswer (keptPoolLoss Low n p ρ R A B wide) (keptPoolLoss High n p ρ R A B wide))
+    unfolding defaults poolLoss keptPoolLoss
+    pool-answer fine R A B B≤1 wide =
+        tranche-says (fine .positive) (defaults n p ρ) (keptDefaults Low n p ρ) (keptDefaults High n p ρ) complete R A B wide
+        (pool-enclosed fine .losses R A B B≤1 wide)
+
+    pub pool-ranged : (side : Side) {x : Kept} → PoolNumber side n p ρ x → Ranged x
     unfolding defaults probability over certainty lossBudget chanceBudget rowBudget triangle
-    pool-ranged side R A B B≤1 (of-rows number) = rows-ranged side room p≤1 ρ≤1 number
-    pool-ranged side R A B B≤1 (of-chances number) =
+    pool-ranged side (of-rows number) = rows-ranged side room p≤1 ρ≤1 number
+    pool-ranged side (of-chances number) =
         chances-ranged (λ j. probability p ρ j n) (λ j l. entry-bound side p ρ p≤1 ρ≤1 l)
         (λ j l. omega (arith, probability-at-most-one p ρ p≤1 ρ≤1 l .cross)) (λ j l. whole-digits (triangle n))
-        (omega (arith, room .parts)) (omega (arith, room .places)) (room .passes) number
-    pool-ranged side R A B B≤1 (of-totals number) =
-        totals-ranged defaults-bounded complete side R A B (14 * triangle n) (narrow A B B≤1)
+        (omega (arith, room .parts)) (omega (arith, room .places)) (room .assets) number
+    pool-ranged side (of-tails number) =
+        tails-ranged defaults-bounded complete side (14 * triangle n)
         (omega (arith, room .parts)) (whole-digits (triangle n)) (omega (arith, room .places)) number
+    pool-ranged side (of-losses R A B B≤1 number) =
+        losses-ranged defaults-bounded complete side (14 * triangle n)
+        (omega (arith, room .parts)) (whole-digits (triangle n)) (omega (arith, room .places)) R A B (narrow A B B≤1) number
 
-  -- ---- for 1 to 64 assets
+  -- ---- for up to 64 assets
 
   module _ (n≤64 : n ≤ largestPool) where
-    room : Room n
+    pub pool-room : Room n
     unfolding rowBudget precision largestPool triangle
-    room = let most = triangle-mono n≤64 in record { parts = omega arith; places = omega arith; passes = omega arith }
+    pool-room = let most = triangle-mono n≤64 in record { parts = omega arith; places = omega arith; assets = omega arith }
 
-    fine : Fine 100000 (poolBudget n)
+    pub pool-fine : Fine 100000 (poolBudget n)
     unfolding largestPool poolBudget lossBudget chanceBudget rowBudget precision triangle
-    fine = fine-weaken {m = poolBudget largestPool} (omega (arith, triangle-mono n≤64)) (record { positive = lit< tt; small = lit≤ tt })
+    pool-fine = fine-weaken {m = poolBudget largestPool} (omega (arith, triangle-mono n≤64)) (record { positive = lit< tt; small = lit≤ tt })
 
     -- Both bounds of every entry, chance, tail and tranche loss, at most one part in 100,000 apart.
     pub enclosure : PoolEnclosed 100000 n p ρ
-    enclosure = pool-enclosed room fine
+    enclosure = pool-enclosed pool-room pool-fine
 
     -- Every number that the steps make has an exponent from −80,000 to 100.
-    pub exponents : (side : Side) (R A B : ℕ) → B ≤ whole → {x : Kept} → PoolNumber side n p ρ R A B x → Ranged x
-    exponents = pool-ranged room
+    pub exponents : (side : Side) {x : Kept} → PoolNumber side n p ρ x → Ranged x
+    exponents = pool-ranged pool-room
 
     -- The printed tails are not above the exact ones and less than 1.3 units below them.
     pub printed : PrintsTails (integer 0) (tenths 13) (defaults n p ρ) (printedTail n (keptDefaults Low n p ρ))
@@ -96,13 +108,11 @@ module _ (n p ρ : ℕ) (p≤1 : p ≤ whole) (ρ≤1 : ρ ≤ whole) where
 
     -- The printed rows add to 100,000, none is below zero, and each is less than 1.5 units from the exact chance.
     pub column : PrintsColumn (tenths 15) (defaults n p ρ) (printedTail n (keptDefaults Low n p ρ)) (printedRow n (keptDefaults Low n p ρ))
-    unfolding printedRow plus integer tenths
-    column = column-weaken (record { cross = lit≤ tt }) (column-of-tails (printedRow n (keptDefaults Low n p ρ)) printed (λ k. omega (arith, printed .falls k)))
+    unfolding defaults plus integer tenths
+    column = column-weaken (record { cross = lit≤ tt }) (printed-column (keptDefaults Low n p ρ) printed)
 
-    -- What the answer to a tranche loss says.
+    -- What the answer to a tranche loss says, with bounds at most one part in 100,000 apart.
     pub answer : (R A B : ℕ) → B ≤ whole → (wide : 0 < (B - A) * n)
         → Says 100000 (keptPoolLoss Low n p ρ R A B wide) (keptPoolLoss High n p ρ R A B wide) (poolLoss n p ρ R A B wide)
         (lossAnswer (keptPoolLoss Low n p ρ R A B wide) (keptPoolLoss High n p ρ R A B wide))
-    unfolding defaults poolLoss keptPoolLoss
-    answer R A B B≤1 wide =
-        tranche-says (lit< tt) (defaults n p ρ) (keptDefaults Low n p ρ) (keptDefaults High n p ρ) complete R A B wide (enclosure .losses R A B B≤1 wide)
+    answer = pool-answer pool-room pool-fine
