@@ -1,10 +1,11 @@
-"""Works the six steps out in exact fractions, each product, sum and quotient rounded once, and prints the figures of
-crates/steps/specs/Cases.antt: pools of 3 assets, both sides, a number being s * 2^-(n+1) for the figures s and n.
+"""Works the six steps out in exact fractions, each product, sum and quotient rounded once, and prints the figures of pools
+of 3 assets. It stops at the first that crates/steps/specs/Cases.antt does not have.
 
     python3 tools/steps_figures.py
 """
 from fractions import Fraction
 from math import comb, floor
+from pathlib import Path
 
 from kept import ZERO, bounds, value
 
@@ -64,29 +65,39 @@ def loss(side, chances, recovery, lower, upper):
     return bounds(value(total) / ((upper - lower) * n))[side]
 
 
-def pairs(name, make):
+CASES = (Path(__file__).parent.parent / "crates/steps/specs/Cases.antt").read_text()
+
+
+def line(text):
+    """One line of the cases, which has to stand there."""
+    assert text + "\n" in CASES, text
+    print(text)
+
+
+def digits(name, make):
     """The significands of both sides and the exponent that they share."""
     (low, exponent), (high, other) = make(0), make(1)
     assert exponent == other
-    print(f"{name}: {low} {high} {-exponent - 1}")
+    line(f"Digits ({name}) {low} {high} {-exponent - 1}")
 
 
 def main():
     made = [steps(side, 3, 1000, 3000) for side in (0, 1)]
     for k in range(1, 4):
         for j in range(k + 1):
-            pairs(f"entry {k} {j}", lambda side: made[side][0][k][j])
+            digits(f"λ side. keptRow side 1000 3000 {k} {j}", lambda side: made[side][0][k][j])
     for j in range(4):
-        pairs(f"chance {j}", lambda side: made[side][1][j])
+        digits(f"λ side. keptDefaults side 3 1000 3000 {j}", lambda side: made[side][1][j])
     for k in range(1, 4):
-        pairs(f"tail {k}", lambda side: tails(side, made[side][1])[k])
-    pairs("loss 1000 3000", lambda side: loss(side, made[side][1], 4000, 1000, 3000))
+        digits(f"λ side. keptPoolTail side 3 1000 3000 {k}", lambda side: tails(side, made[side][1])[k])
+    digits("threeLoss 1000 3000 (lit< tt)", lambda side: loss(side, made[side][1], 4000, 1000, 3000))
     low = tails(0, made[0][1])
     printed = [100000] + [floor(100000 * value(x)) for x in low[1:]] + [0]
-    print("printed rows:", *(printed[k] - printed[k + 1] for k in range(4)))
-    print("printed tails:", *printed[:-1])
+    for k in range(4):
+        line(f"(threeRow {k} ≡ {printed[k] - printed[k + 1]})")
+        line(f"(threeTail {k} ≡ {printed[k]})")
     others = [steps(side, 3, 500, 500)[1] for side in (0, 1)]
-    pairs("p = rho = 500, tail 1", lambda side: tails(side, others[side])[1])
+    digits("λ side. keptPoolTail side 3 500 500 1", lambda side: tails(side, others[side])[1])
 
 
 if __name__ == "__main__":
