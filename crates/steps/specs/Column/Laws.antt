@@ -188,4 +188,4 @@ module _ {N : ℕ} (r : Chances) (c : ℕ → Kept) (low : (k : ℕ) → Bound L
 pub printed-tails : {b : ℕ} {r : Chances} {c : Side → ℕ → Kept} {below : Fraction} → Bounded b r c → Complete r
     → (precision + unitsOfCertainty * tailBudget (r .assets) b) * below .den ≤ below .num * precision
     → PrintsTails (integer 0) below r (printedTail (r .assets) (c Low))
-printed-tails {r} {c} {below} bounded complete slack = printed-of-low r (c Low) (λ k. tail-bound bounded Low k) complete below slack
+printed-tails {r} {c} {below} bounded complete slack = printed-of-low r (c Low) (tail-bound bounded Low) complete below slack

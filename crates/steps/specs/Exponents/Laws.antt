@@ -3,9 +3,9 @@
 use Prim.Native.Nat.{ℕ, suc, _+_, _-_, _*_, _^_, _≤_, _<_, min}
 use native.Mathlib.Omega.{arith}
 use native.Mathlib.Nat.{le-refl, le-trans, le-of-lt, mul-le-mul, mul-le-mul-left, pow-zero, pow-suc, pow-succ', pow-le-pow-left}
-use lib.Dec.{lit≤, leb→le, le→leb}
+use lib.Dec.{lit≤, leb→le}
 use lib.IntN.{ℤ, pos, negsuc, natAbs}
-use lib.Pow.{pow-add}
+use lib.Pow.{pow-add, pow-mono}
 use lib.Signed.{_≤ℤ_}
 use Rattle.model.specs.Number.{choose, triangle}
 use Rattle.model.specs.Number.Laws.{choose-at-most, triangle-mono}
@@ -31,24 +31,12 @@ use Rattle.steps.specs.Exponents.{Ranged, RowNumber, ChanceNumber, TailN
 use Rattle.steps.specs.Exponents.{is-p, is-a, is-ρ, is-q, is-conditional-product, is-conditional, is-joint, is-power, is-weight, is-passed, is-pass-product, is-entry}
 use Rattle.steps.specs.Exponents.{is-count, is-chance, is-tail, is-units, is-term, is-total, is-loss}
 
-weaken-least : {a b : ℕ} → a ≤ b → (e : ℤ) → negsuc a ≤ℤ e → negsuc b ≤ℤ e
-weaken-least l (pos k) least = record { le = tt }
-weaken-least {a} {b} l (negsuc k) least = record { le = le→leb k b (le-trans (leb→le k a (least .le)) l) }
-
-weaken-most : {a b : ℕ} → a ≤ b → (e : ℤ) → e ≤ℤ pos a → e ≤ℤ pos b
-weaken-most {a} {b} l (pos k) most = record { le = le→leb k b (le-trans (leb→le k a (most .le)) l) }
-weaken-most l (negsuc k) most = record { le = tt }
-
 -- A number close to an exact value of at most 2^c over a denominator of at most 2^m.
-pub bound-ranged : {side : Side} {b : ℕ} {x : Kept} {v : Fraction} → Bound side b x v → b * 2 ≤ precision
+bound-ranged : {side : Side} {b : ℕ} {x : Kept} {v : Fraction} → Bound side b x v → b * 2 ≤ precision
     → (m c : ℕ) → v .den ≤ 2 ^ m → m ≤ 79968 → v .num ≤ v .den * 2 ^ c → c ≤ 100 → Ranged x
-bound-ranged {x} bound parts m c den digits num values =
-    let exponent = bound-exponent bound parts m c den num in
-    record {
-      kept = bound .kept;
-      least = weaken-least (omega arith) (x .exponent) (exponent .0);
-      most = weaken-most (omega arith) (x .exponent) (exponent .1);
-    }
+bound-ranged {v} bound parts m c den digits num values =
+    let exponent = bound-exponent bound parts 79968 100 (le-trans den (pow-mono digits)) (le-trans num (mul-le-mul-left (v .den) (pow-mono values))) in
+    record { kept = bound .kept; least = exponent .0; most = exponent .1 }
 
 -- What the methods of kept numbers ask for.
 pub ranged-operand : {x : Kept} → Ranged x → Operand x

@@ -108,7 +108,7 @@ high-to-two {g} {low} {high} {v} positive enclosed most =
     }
 
 -- What it says, of an exact loss of at most one between two bounds.
-pub answer-says : {g : ℕ} {low high : Kept} {v : Fraction} → 0 < g → IsKept low → IsKept high → Enclosed g low high v → AtMost v certainty → Says g low high v (lossAnswer low high)
+answer-says : {g : ℕ} {low high : Kept} {v : Fraction} → 0 < g → IsKept low → IsKept high → Enclosed g low high v → AtMost v certainty → Says g low high v (lossAnswer low high)
 unfolding integer nought scaled
 answer-says {g} {low} {high} {v} positive kept-low kept-high enclosed most = by-form (kept-high .form)
   where
