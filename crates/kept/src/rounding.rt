@@ -12,13 +12,15 @@ ghost use Rattle.kept.specs.Rounding.Sums.{Gap, Addend, placeOf};
 use super::Kept;
 use super::Side;
 
-// One on the high side where something was dropped.
+// One on the high side where something was dropped: anything but zero is carried to 2^33 there. It is a sum and no branch, since
+// nothing foretells whether the last digits are all zero.
 pub fn one_more(side: Side, dropped: u64) -> u64
+    requires { ⌜ dropped < 2 ^ 33 ⌝ }
     ensures { λ r. ⌜ r ≡ step side dropped ⌝ }
 {
     match side {
         Side::Low => 0,
-        Side::High => if dropped == 0 { 0 } else { 1 },
+        Side::High => (dropped + 0x1_ffff_ffff) >> 33,
     }
 }
 

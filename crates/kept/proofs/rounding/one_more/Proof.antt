@@ -1,17 +1,18 @@
 -- `one_more` meets its contract.
 -- Assumes nothing.
 use borrow.Author.Needs.{needs}
-use Prim.Native.Nat.{ℕ, zero, suc}
+use Prim.Native.Nat.{ℕ, zero, suc, _+_, _/_, _^_, _<_}
 use mathlib.Core.Path.{_≡_, refl}
+use native.Mathlib.Omega.{arith}
 use Rattle.kept.specs.declared.Side.the-variants.{High}
 use Rattle.kept.specs.Rounding.{step}
 use Rattle.kept.proofs.rounding.one_more.Statement.{statement}
 use Rattle.kept.proofs.rounding.one_more.Tie as tie
 
-some : (r : ℕ) → (r ≡ 0 → ⊥) → 1 ≡ step High r
+carried-over : (r : ℕ) → r < 2 ^ 33 → (r + 0x1ffffffff) / 2 ^ 33 ≡ step High r
 unfolding step
-some zero not = absurd (not refl)
-some (suc r) not = refl
+carried-over zero few = omega arith
+carried-over (suc r) few = omega arith
 
 enum-told : tie.Need-enum-told
 enum-told c = search needs
@@ -19,17 +20,16 @@ enum-told c = search needs
 enum-told-2 : tie.Need-enum-told-2
 enum-told-2 c = search needs
 
+add-result : tie.Need-add-result
+add-result c = search needs
+
 returns : tie.Need-returns
 unfolding step
 returns c = rw (c .enum-told .given .1) refl
 
 returns-2 : tie.Need-returns-2
-unfolding step
-returns-2 c = rw (c .before .enum-told2 .given .1, c .if1 .taken) refl
-
-returns-3 : tie.Need-returns-3
-unfolding step
-returns-3 c = rw (c .before .enum-told2 .given .1) (some (c .before .before .before .args .dropped) (c .if1 .left))
+returns-2 c =
+    rw (c .enum-told2 .given .1) (carried-over (c .before .before .args .dropped) (c .before .before .pre))
 
 pub one-more-spec : {M : Type 1} → statement M
-one-more-spec = tie.close (tie.spec enum-told enum-told-2 returns returns-2 returns-3)
+one-more-spec = tie.close (tie.spec enum-told enum-told-2 add-result returns returns-2)
