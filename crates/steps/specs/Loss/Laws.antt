@@ -17,7 +17,7 @@ use Rattle.kept.specs.declared.Kept.{Kept}
 use Rattle.kept.specs.declared.Side.the-variants.{Low, High}
 use Rattle.kept.specs.Rounding.{IsKept, Normal, scaled, value, nought}
 use Rattle.kept.specs.Rounding.Powers.{scaled-shift}
-use Rattle.kept.specs.Binary64.{leastShown, belowShown, toBinary64, IsBinary64}
+use Rattle.kept.specs.Binary64.{leastShown, belowShown, toBinary64, Shown}
 use Rattle.kept.specs.Binary64.Laws.{below-shown-yes, below-shown-no, shown-binary64}
 use Rattle.steps.specs.Chances.{keptLoss}
 use Rattle.steps.specs.Chances.Laws.{loss-kept}
@@ -71,25 +71,25 @@ answer-shown low high kept not least = rw (tests-not-zero kept not, le-ltb _ _ (
 
 -- ---- what it says
 
--- A kept number from 2^−800 to two has its value as an f64.
-binary64-to-two : {x : Kept} → IsKept x → AtMost leastShown (value x) → AtMost (value x) (integer 2) → IsBinary64 x (toBinary64 x)
+-- A kept number from 2^−800 to two can be shown as an f64.
+pub shown-to-two : {x : Kept} → IsKept x → AtMost leastShown (value x) → AtMost (value x) (integer 2) → Shown x
 unfolding integer scaled
-binary64-to-two kept least most = shown-binary64 (record { kept = kept; least = least; below = at-most-less-trans most (record { cross = lit< tt }) })
+shown-to-two kept least most = record { kept = kept; least = least; below = at-most-less-trans most (record { cross = lit< tt }) }
 
 least-to-two : AtMost (value keptLeastShown) (integer 2)
 unfolding keptLeastShown scaled integer
 least-to-two = record { cross = lit≤ tt }
 
-raised-binary64 : {x : Kept} → IsKept x → AtMost (value x) (integer 2) → IsBinary64 (raisedToShown x) (toBinary64 (raisedToShown x))
-raised-binary64 {x} kept most =
+pub raised-shown : {x : Kept} → IsKept x → AtMost (value x) (integer 2) → Shown (raisedToShown x)
+raised-shown {x} kept most =
     let least = raised-greater x .1 in
     elim (raised-greater x .2) [
-      | inl is ↦ rw is (binary64-to-two kept (rw is at least) most)
-      | inr is ↦ rw is (binary64-to-two least-shown-kept (rw is at least) least-to-two)
+      | inl is ↦ rw is (shown-to-two kept (rw is at least) most)
+      | inr is ↦ rw is (shown-to-two least-shown-kept (rw is at least) least-to-two)
     ]
 
 -- g × high ≤ v + g × low ≤ (1 + g) × v ≤ 2 × g
-high-to-two : {g : ℕ} {low high : Kept} {v : Fraction} → 0 < g → Enclosed g low high v → AtMost v certainty → AtMost (value high) (integer 2)
+pub high-to-two : {g : ℕ} {low high : Kept} {v : Fraction} → 0 < g → Enclosed g low high v → AtMost v certainty → AtMost (value high) (integer 2)
 unfolding integer certainty plus times
 high-to-two {g} {low} {high} {v} positive enclosed most =
     let m = value low .den in
@@ -124,7 +124,7 @@ answer-says {g} {low} {high} {v} positive kept-low kept-high enclosed most = by-
         rw (answer-faint low high kept-high not below) (record {
           low-below = below;
           high-not-zero = not;
-          is = raised-binary64 kept-high high-most;
+          is = shown-binary64 (raised-shown kept-high high-most);
           from-exact = at-most-trans (enclosed .from-above) (raised-greater high .0);
           from-least = raised-greater high .1;
         })
@@ -133,8 +133,8 @@ answer-says {g} {low} {high} {v} positive kept-low kept-high enclosed most = by-
         rw (answer-shown low high kept-high not least) (record {
           low-not-below = least;
           high-not-zero = not;
-          lower-is = binary64-to-two kept-low least (at-most-trans order high-most);
-          upper-is = binary64-to-two kept-high (at-most-trans least order) high-most;
+          lower-is = shown-binary64 (shown-to-two kept-low least (at-most-trans order high-most));
+          upper-is = shown-binary64 (shown-to-two kept-high (at-most-trans least order) high-most);
           enclosed = enclosed;
         })
 
