@@ -1,0 +1,104 @@
+-- `chances` meets its contract.
+-- Assumes nothing.
+use Prim.Native.Nat.{suc, _-_, _≤_}
+use mathlib.Core.Path.{_≡_, refl}
+use native.Mathlib.Omega.{arith}
+use Rattle.kept.specs.Rounding.{nought}
+use Rattle.steps.specs.Pool.{largestPool}
+use Rattle.rows.specs.Working.{workingPlaces}
+use Rattle.chances.specs.Chances.Laws.{ChancesBelow, entry-operand, chances-none, chances-all, count-operand, chances-next}
+use Rattle.chances.proofs.chances.Statement.{statement}
+use Rattle.chances.proofs.chances.Tie as tie
+
+abbrev Inv-loop : tie.InvT-loop
+Inv-loop n side row counts chances₀ places j₀ chances j = (n ≤ 64) × (j ≤ suc n) × ChancesBelow side n j row chances
+
+abbrev μ-loop : tie.MeasureT-loop
+μ-loop n side row counts chances₀ places j₀ chances j = suc n - j
+
+orders-requires : tie.Need-orders-requires Inv-loop μ-loop
+orders-requires c κs = omega arith
+
+zero-requires : tie.Need-zero-requires Inv-loop μ-loop
+zero-requires c κs = tt
+
+add-places : tie.Need-add-places Inv-loop μ-loop
+add-places c = omega arith
+
+loop-holds : tie.Need-loop-holds Inv-loop μ-loop
+unfolding workingPlaces largestPool
+loop-holds c = (omega arith, omega arith, chances-none _ refl)
+
+mul-from-integer : tie.Need-mul-from-integer Inv-loop μ-loop
+mul-from-integer c = omega arith
+
+array-read-from-integer : tie.Need-array-read-from-integer Inv-loop μ-loop
+array-read-from-integer c = omega arith
+
+from-integer-requires : tie.Need-from-integer-requires Inv-loop μ-loop
+from-integer-requires c κs = tt
+
+mul-product : tie.Need-mul-product Inv-loop μ-loop
+mul-product c = omega arith
+
+array-copy-out-product : tie.Need-array-copy-out-product Inv-loop μ-loop
+array-copy-out-product c = omega arith
+
+product-requires : tie.Need-product-requires Inv-loop μ-loop
+unfolding nought
+product-requires c κs =
+    let at-loop = c .before .before .before in
+    let start = at-loop .before .before .before in (
+      count-operand (start .pre) (at-loop .before .before .orders .ensures) (at-loop .loop .j) (omega arith) (c .before .from-integer .ensures),
+      entry-operand (start .pre .entries) (start .pre .entry-ranged) _ (omega arith),
+    )
+
+mul-chances : tie.Need-mul-chances Inv-loop μ-loop
+mul-chances c = omega arith
+
+array-set-from-chances : tie.Need-array-set-from-chances Inv-loop μ-loop
+array-set-from-chances c = omega arith
+
+add-j : tie.Need-add-j Inv-loop μ-loop
+add-j c = omega arith
+
+loop-less : tie.Need-loop-less Inv-loop μ-loop
+loop-less c = omega arith
+
+loop-again : tie.Need-loop-again Inv-loop μ-loop
+unfolding nought
+loop-again c =
+    let at-loop = c .before .before .before .before in
+    let start = at-loop .before .before .before in
+    let next =
+    chances-next (start .pre) (at-loop .before .before .orders .ensures) (at-loop .loop .j) (omega arith) (c .before .before .from-integer .ensures)
+    (at-loop .loop .inv .2) (c .product .result) (c .product .ensures) in
+    (omega arith, omega arith, next)
+
+returns : tie.Need-returns Inv-loop μ-loop
+returns c =
+    let done : c .before .loop .j ≡ suc (c .before .before .before .before .args .n) = omega arith in
+    chances-all (rw done at (c .before .loop .inv .2))
+
+pub chances-spec : {M : Type 1} → statement M
+chances-spec =
+    tie.close
+    (tie.spec
+    Inv-loop
+    μ-loop
+    orders-requires
+    zero-requires
+    add-places
+    loop-holds
+    mul-from-integer
+    array-read-from-integer
+    from-integer-requires
+    mul-product
+    array-copy-out-product
+    product-requires
+    mul-chances
+    array-set-from-chances
+    add-j
+    loop-less
+    loop-again
+    returns)

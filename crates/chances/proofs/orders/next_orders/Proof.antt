@@ -1,0 +1,85 @@
+-- `orders::next_orders` meets its contract.
+-- Assumes nothing.
+use Prim.Native.Nat.{suc, _-_, _≤_, _<_}
+use mathlib.Core.Path.{_≡_}
+use native.Mathlib.Omega.{arith}
+use Rattle.steps.specs.Pool.{largestPool}
+use Rattle.chances.specs.Orders.Laws.{OrdersBelow, orders-first, pascal-word, orders-next, orders-all}
+use Rattle.chances.proofs.orders.next_orders.Statement.{statement}
+use Rattle.chances.proofs.orders.next_orders.Tie as tie
+
+abbrev Inv-loop : tie.InvT-loop
+Inv-loop k row next₀ between j₀ next j = (k < 64) × (j ≤ k) × OrdersBelow k (suc j) next
+
+abbrev μ-loop : tie.MeasureT-loop
+μ-loop k row next₀ between j₀ next j = k - j
+
+loop-holds : tie.Need-loop-holds Inv-loop μ-loop
+unfolding largestPool
+loop-holds c = (omega arith, omega arith, orders-first (c .pre .1))
+
+mul-next : tie.Need-mul-next Inv-loop μ-loop
+mul-next c = omega arith
+
+array-read-next : tie.Need-array-read-next Inv-loop μ-loop
+array-read-next c = omega arith
+
+add-next : tie.Need-add-next Inv-loop μ-loop
+add-next c = omega arith
+
+mul-next-2 : tie.Need-mul-next-2 Inv-loop μ-loop
+mul-next-2 c = omega arith
+
+array-read-next-2 : tie.Need-array-read-next-2 Inv-loop μ-loop
+array-read-next-2 c = omega arith
+
+add-next-2 : tie.Need-add-next-2 Inv-loop μ-loop
+add-next-2 c =
+    let start = c .before .before in
+    record { fits = pascal-word (start .pre .1) (start .pre .0) (c .before .loop .j) (c .loop-test .taken) }
+
+add-next-3 : tie.Need-add-next-3 Inv-loop μ-loop
+add-next-3 c = omega arith
+
+mul-next-3 : tie.Need-mul-next-3 Inv-loop μ-loop
+mul-next-3 c = omega arith
+
+array-write-next : tie.Need-array-write-next Inv-loop μ-loop
+array-write-next c = omega arith
+
+add-j : tie.Need-add-j Inv-loop μ-loop
+add-j c = omega arith
+
+loop-less : tie.Need-loop-less Inv-loop μ-loop
+loop-less c = omega arith
+
+loop-again : tie.Need-loop-again Inv-loop μ-loop
+loop-again c =
+    let start = c .before .before in
+    (omega arith, omega arith, orders-next (start .pre .1) (start .pre .0) (c .before .loop .j) (c .loop-test .taken) (c .before .loop .inv .2))
+
+returns : tie.Need-returns Inv-loop μ-loop
+returns c =
+    let done : c .before .loop .j ≡ c .before .before .args .k = omega arith in
+    orders-all (rw done at (c .before .loop .inv .2))
+
+pub next-orders-spec : {M : Type 1} → statement M
+next-orders-spec =
+    tie.close
+    (tie.spec
+    Inv-loop
+    μ-loop
+    loop-holds
+    mul-next
+    array-read-next
+    add-next
+    mul-next-2
+    array-read-next-2
+    add-next-2
+    add-next-3
+    mul-next-3
+    array-write-next
+    add-j
+    loop-less
+    loop-again
+    returns)

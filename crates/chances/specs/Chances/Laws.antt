@@ -1,0 +1,68 @@
+-- A working row of chances, place by place.
+-- Assumes nothing.
+use Prim.Native.Nat.{ℕ, suc, _+_, _≤_, _<_}
+use mathlib.Core.Path.{_≡_, ap, ap₂, _∙_}
+use mathlib.Core.List.{List}
+use native.Mathlib.Decide.{decLt}
+use native.Mathlib.Numerals.{add-one}
+use native.Mathlib.Omega.{arith}
+use lib.ListN.{length, getD, set, length-set}
+use lib.Seq.{getD-set-same, getD-set-other}
+use Rattle.model.specs.Number.{choose}
+use Rattle.kept.specs.declared.Kept.{Kept}
+use Rattle.kept.specs.declared.Side.{Side}
+use Rattle.kept.specs.Rounding.{Operand, nought, ofInteger, roundedProduct}
+use Rattle.steps.specs.Chances.{keptChance}
+use Rattle.steps.specs.Exponents.{Ranged, is-count}
+use Rattle.steps.specs.Exponents.Laws.{ranged-operand}
+use Rattle.rows.specs.Working.{Entries, workingPlaces}
+use Rattle.chances.specs.Chances.{ChancesReady, ChancesMade}
+use Rattle.chances.specs.Orders.{Orders}
+
+-- ---- any working row
+
+pub entry-operand : {n : ℕ} {row : List Kept} {f : ℕ → Kept} → Entries (suc n) row f → ((j : ℕ) → j ≤ n → Ranged (f j))
+    → (j : ℕ) → j ≤ n → Operand (getD row j nought)
+entry-operand entries ranged j l = rw (entries .entry j (omega arith)) (ranged-operand (ranged j l))
+
+-- One more entry.
+entries-next : {m : ℕ} {row : List Kept} {f : ℕ → Kept} → Entries m row f → m < workingPlaces → (x : Kept) → x ≡ f m → Entries (suc m) (set row m x) f
+entries-next {m} {row} e l x is = record {
+  places = length-set row m x ∙ e .places;
+  entry = λ j below. elim (decLt j m) [
+    | yes before ↦ getD-set-other row m j x nought (λ here. absurd (omega arith)) ∙ e .entry j before
+    | no last ↦ let here : j ≡ m = omega arith in rw here (getD-set-same row m x nought (omega (arith, e .places)) ∙ is)
+  ];
+}
+
+-- ---- chances
+
+-- The chances of fewer than m defaults are made.
+pub record ChancesBelow (side : Side) (n m : ℕ) (row r : List Kept) : Type 0 where
+  pub chances : (entry : ℕ → Kept) → Entries (suc n) row entry → Entries m r (λ j. keptChance side n j (entry j))
+
+module _ {side : Side} {n : ℕ} {row : List Kept} where
+  pub chances-none : (r : List Kept) → length r ≡ workingPlaces → ChancesBelow side n 0 row r
+  chances-none r l = record { chances = λ entry e. record { places = l; entry = λ j none. absurd (omega arith) } }
+
+  pub chances-all : {r : List Kept} → ChancesBelow side n (suc n) row r → ChancesMade side n row r
+  chances-all done = record { chances = done .chances }
+
+  -- The chance of j defaults: x is the count of orders.
+  module _
+      (ready : ChancesReady side n row) {counts : List ℕ} (orders : Orders n counts)
+      (j : ℕ) (l : j ≤ n) {x : Kept} (is : x ≡ ofInteger side (getD counts j 0)) where
+    count-is : x ≡ ofInteger side (choose n j)
+    count-is = is ∙ ap (ofInteger side) (orders .count j l)
+
+    pub count-operand : Operand x
+    count-operand = rw count-is (ranged-operand (ready .ranged (is-count j l)))
+
+    pub chances-next : {r : List Kept} → ChancesBelow side n j row r → (y : Kept) → y ≡ roundedProduct side x (getD row j nought)
+        → ChancesBelow side n (j + 1) row (set r j y)
+    unfolding workingPlaces keptChance
+    chances-next done y product = record {
+      chances = λ entry e.
+          rw (add-one j)
+          (entries-next (done .chances entry e) (omega (arith, ready .assets)) y (product ∙ ap₂ (roundedProduct side) count-is (e .entry j (omega arith))));
+    }

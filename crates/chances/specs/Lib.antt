@@ -1,0 +1,5 @@
+pub mod Orders
+pub mod Chances
+pub mod Tails
+pub mod Loss
+pub mod Pool

@@ -1,0 +1,30 @@
+// The counts of orders, C(n,j), exactly.
+ghost use Prim.Native.Nat.{suc, _≤_, _<_};
+ghost use Rattle.steps.specs.Pool.{largestPool};
+ghost use Rattle.chances.specs.Orders.{Orders};
+
+// The counts of k + 1 assets from those of k: the first and the last are one, each between is the sum of two.
+fn next_orders(row: [u64; 65], k: u32) -> [u64; 65]
+    requires { ⌜ Orders k row ⌝ ∗ ⌜ k < largestPool ⌝ }
+    ensures { λ r. ⌜ Orders (suc k) r ⌝ }
+{
+    let mut next = [1u64; 65];
+    let between = k as usize;
+    for j in 0..between {
+        next[j + 1] = row[j] + row[j + 1];
+    }
+    next
+}
+
+// C(n,0) to C(n,n).
+pub fn orders(n: u32) -> [u64; 65]
+    requires { ⌜ n ≤ largestPool ⌝ }
+    ensures { λ r. ⌜ Orders n r ⌝ }
+{
+    let mut row = [1u64; 65];
+    for k in 0..n {
+        let next = next_orders(row, k);
+        row = next;
+    }
+    row
+}

@@ -1,0 +1,159 @@
+-- What the calls promise, from what the steps give.
+-- Assumes nothing.
+use Prim.Native.Nat.{ℕ, zero, suc, _+_, _≤_, _<_, min}
+use mathlib.Core.Path.{_≡_, refl, sym, ap, _∙_}
+use mathlib.Core.List.{List, []}
+use native.Mathlib.Omega.{arith}
+use native.Mathlib.Numerals.{add-one}
+use native.Mathlib.Nat.{le-refl, add-zero}
+use lib.ListN.{length, getD, take, drop, length-take, length-drop}
+use lib.Seq.{getD-take, getD-drop, ext-getD}
+use Rattle.model.specs.Number.{triangle, sum}
+use Rattle.model.specs.Number.Laws.{triangle-mono, sum-cong}
+use Rattle.model.specs.Chances.Laws.{tranche-wide}
+use Rattle.model.specs.CorrelatedBinomial.{defaults}
+use Rattle.kept.specs.declared.Side.{Side}
+use Rattle.kept.specs.declared.Side.the-variants.{Low, High}
+use Rattle.steps.specs.Rows.{keptRow}
+use Rattle.steps.specs.Column.{printedTail, printedRow}
+use Rattle.steps.specs.Loss.{lossAnswer}
+use Rattle.steps.specs.Pool.{largestPool, keptDefaults, keptPoolLoss}
+use Rattle.steps.specs.Pool.Theorems.{column, enclosure, answer}
+use Rattle.rows.specs.Store.{tabulate, overwritten, storedSignificands}
+use Rattle.rows.specs.Store.Laws.{length-tabulate, getD-tabulate, stored-significands-length, stored-significand, overwritten-at}
+use Rattle.grounds.specs.Grounds.{PoolAccepted, TrancheAccepted, RowAccepted}
+use Rattle.grounds.specs.Grounds.Laws.{row-accepted}
+use Rattle.pool.specs.Stores.{Store, place, storeLeft}
+use Rattle.pool.specs.Stores.Laws.{place-triangle, row-below, filled-holds}
+use Rattle.pool.specs.declared.Pool.{Pool}
+use Rattle.pool.specs.declared.Tranche.{Tranche}
+use Rattle.pool.specs.Calls.{LeavesStore, rowRefusal, partLeft, HandsRow, unitsLeft, HoldsColumn, Wide, lossBound, exactLoss, HoldsLoss}
+use Rattle.pool.specs.Answers.{LossReply, answered}
+
+-- ---- row
+
+-- Row k lies within a slice that is accepted.
+pub row-within : (n k : ℕ) (significands : List ℕ) → rowRefusal n k significands ≡ 0 → (k ≤ largestPool) × (place k 0 + (k + 1) ≤ length significands)
+unfolding triangle rowRefusal
+row-within n k significands accepts =
+    let accepted = row-accepted n k (length significands) accepts in
+    (omega (arith, accepted .row, accepted .assets .most), rw (place-triangle k 0) (omega (arith, triangle-mono (accepted .row), accepted .store)))
+
+module _ (n k : ℕ) (significands : List ℕ) {refusal : ℕ} (is : refusal ≡ rowRefusal n k significands) where
+  pub part-refused : (refusal ≡ 0 → ⊥) → [] ≡ partLeft (rowRefusal n k significands) k significands
+  unfolding partLeft
+  part-refused some = by-number (rowRefusal n k significands) (λ none. some (is ∙ none))
+    where
+      by-number : (r : ℕ) → (r ≡ 0 → ⊥) → [] ≡ partLeft r k significands
+      by-number zero not = absurd (not refl)
+      by-number (suc r) not = refl
+
+  pub part-accepted : refusal ≡ 0 → take (k + 1) (drop (place k 0) significands) ≡ partLeft (rowRefusal n k significands) k significands
+  unfolding partLeft
+  part-accepted none = rw (sym is ∙ none) refl
+
+module _ (n k : ℕ) (significands : List ℕ) {part : List ℕ} (is : part ≡ partLeft (rowRefusal n k significands) k significands) where
+  module _ (accepts : rowRefusal n k significands ≡ 0) where
+    part-is-row : part ≡ take (k + 1) (drop (place k 0) significands)
+    part-is-row = is ∙ sym (part-accepted n k significands refl accepts)
+
+    part-length : length part ≡ k + 1
+    part-length = rw (part-is-row, length-take, length-drop) (omega (arith, row-within n k significands accepts .1))
+
+    part-entry : (j : ℕ) → j ≤ k → getD part j 0 ≡ getD significands (place k j) 0
+    part-entry j l =
+        let low : j < k + 1 = omega arith in
+        rw (part-is-row, getD-take, getD-drop, place-triangle k 0, add-zero (triangle k), ← place-triangle k j) refl
+
+    part-filled : (side : Side) (p ρ m : ℕ) (old : List ℕ) → n ≤ m → significands ≡ overwritten (storedSignificands side p ρ m) old
+        → part ≡ tabulate (suc k) (λ j. keptRow side p ρ k j .significand)
+    unfolding rowRefusal
+    part-filled side p ρ m old more filled =
+        let accepted = row-accepted n k (length significands) accepts in
+        ext-getD 0 part (tabulate (suc k) (λ j. keptRow side p ρ k j .significand)) (part-length ∙ rw length-tabulate (omega arith)) (λ j l.
+        let low : j ≤ k = omega (arith, part-length) in
+        let to-m : k ≤ m = omega (arith, accepted .row) in
+        let within : triangle k + j < triangle (suc m) = row-below low to-m in
+        rw (
+          part-entry j low,
+          place-triangle k j,
+          filled,
+          overwritten-at (storedSignificands side p ρ m) old (triangle k + j) 0 (rw (stored-significands-length side p ρ m) within),
+          stored-significand side p ρ m low to-m,
+          getD-tabulate (suc k) (λ i. keptRow side p ρ k i .significand) j 0 (omega arith),
+        ) refl)
+
+  part-empty : (rowRefusal n k significands ≡ 0 → ⊥) → length part ≡ 0
+  unfolding partLeft
+  part-empty not = by-number (rowRefusal n k significands) refl
+    where
+      by-number : (r : ℕ) → rowRefusal n k significands ≡ r → length part ≡ 0
+      by-number zero none = absurd (not none)
+      by-number (suc r) some = ap length is ∙ rw some refl
+
+  -- What is known of the part that is handed over follows from which it is.
+  pub hands-row : HandsRow n k significands part
+  hands-row = record { part-is = is; refused-empty = part-empty; accepted-length = part-length; entries = part-entry; of-filled = part-filled }
+
+-- ---- the store
+
+module _ {pool : Pool} {before after : Store} where
+  pub store-untouched : (refusal : ℕ) → (refusal ≡ 0 → ⊥) → after ≡ before → LeavesStore pool before after refusal
+  unfolding storeLeft
+  store-untouched zero some same = absurd (some refl)
+  store-untouched (suc r) some same = record { store-is = same; holds = λ none. absurd (some none) }
+
+  pub store-filled : PoolAccepted (pool .assets) (pool .probability) (pool .correlation)
+      → after ≡ storeLeft (pool .assets) (pool .probability) (pool .correlation) 0 before → LeavesStore pool before after 0
+  store-filled accepted is = record { store-is = is; holds = λ none. rw is (filled-holds (pool .assets) (pool .probability) (pool .correlation) before accepted) }
+
+-- ---- column
+
+module _ (n p ρ : ℕ) (accepted : PoolAccepted n p ρ) (units : List ℕ) {units′ : List ℕ} (is : units′ ≡ unitsLeft n p ρ 0 units) where
+  row-printed : {k : ℕ} → k ≤ n → getD units′ k 0 ≡ printedRow n (keptDefaults Low n p ρ) k
+  unfolding unitsLeft
+  row-printed {k} l =
+      let rows : List ℕ = tabulate (suc n) (printedRow n (keptDefaults Low n p ρ)) in
+      let low : k < suc n = omega arith in
+      rw (is, overwritten-at rows units k 0 (rw (length-tabulate (suc n) (printedRow n (keptDefaults Low n p ρ))) low))
+      (getD-tabulate (suc n) (printedRow n (keptDefaults Low n p ρ)) k 0 low)
+
+  pub column-holds : HoldsColumn n p ρ units′
+  unfolding defaults
+  column-holds =
+      let prints = column n p ρ (accepted .probability) (accepted .correlation) (accepted .assets .most) in
+      record {
+        total = sum-cong (suc n) (λ k l. row-printed (omega arith)) ∙ prints .total;
+        difference = λ k l. rw (row-printed l) (prints .difference k);
+        last = row-printed (le-refl n) ∙ prints .last;
+        near = λ k l. rw (row-printed l) (prints .near k l);
+      }
+
+-- ---- loss
+
+module _ (pool : Pool) (tranche : Tranche) (accepted : PoolAccepted (pool .assets) (pool .probability) (pool .correlation))
+    (attachments : TrancheAccepted (pool .recovery) (tranche .lower) (tranche .upper)) where
+  pub loss-wide : Wide pool tranche
+  unfolding Wide
+  loss-wide = tranche-wide (accepted .assets .some) (attachments .attachments)
+
+  pub loss-holds : {reply : LossReply} (wide : Wide pool tranche)
+      → reply ≡ answered (lossAnswer (lossBound pool tranche Low wide) (lossBound pool tranche High wide)) → HoldsLoss pool tranche wide reply
+  unfolding Wide lossBound exactLoss
+  loss-holds wide is =
+      let n = pool .assets in
+      let p = pool .probability in
+      let ρ = pool .correlation in
+      let R = pool .recovery in
+      let A = tranche .lower in
+      let B = tranche .upper in
+      let p≤1 = accepted .probability in
+      let ρ≤1 = accepted .correlation in
+      let n≤64 = accepted .assets .most in
+      record {
+        answer-is = is;
+        enclosed = enclosure n p ρ p≤1 ρ≤1 n≤64 .losses R A B (attachments .upper) wide;
+        says = λ loss given.
+            let same : lossAnswer (keptPoolLoss Low n p ρ R A B wide) (keptPoolLoss High n p ρ R A B wide) ≡ loss = cc in
+            rw same at (answer n p ρ p≤1 ρ≤1 n≤64 R A B (attachments .upper) wide);
+      }

@@ -1,0 +1,83 @@
+// Fills the store of chances.
+use super::Pool;
+use kept::Kept;
+use kept::Side;
+ghost use Rattle.pool.specs.Stores.{store};
+ghost use Rattle.pool.specs.Table.{Ready, FilledBoth};
+ghost use Rattle.pool.specs.Calls.{Fills};
+
+// Row n of either side.
+pub struct LastRows {
+    pub low: [Kept; 65],
+    pub high: [Kept; 65],
+}
+
+// Fills rows 0 to n of both sides, and hands back row n.
+pub fn fill_both(
+    pool: Pool,
+    low_significands: &mut [u32],
+    high_significands: &mut [u32],
+    low_exponents: &mut [i32],
+    high_exponents: &mut [i32],
+) -> LastRows
+    requires { ⌜ Ready pool (store (now «low_significands») (now «high_significands») (now «low_exponents») (now «high_exponents»)) ⌝ }
+    ensures { λ r. ⌜ FilledBoth pool
+        (store (now («low_significands» .entry)) (now («high_significands» .entry)) (now («low_exponents» .entry)) (now («high_exponents» .entry)))
+        (store (now («low_significands» .exit)) (now («high_significands» .exit)) (now («low_exponents» .exit)) (now («high_exponents» .exit)))
+        (r .low)
+        (r .high) ⌝ }
+{
+    let low = rows::fill_side(
+        pool.assets,
+        pool.probability,
+        pool.correlation,
+        Side::Low,
+        low_significands,
+        low_exponents,
+    );
+    let high = rows::fill_side(
+        pool.assets,
+        pool.probability,
+        pool.correlation,
+        Side::High,
+        high_significands,
+        high_exponents,
+    );
+    LastRows { low, high }
+}
+
+// Fills the store with rows 0 to n: entry j of row k, the bounds of P(j,k), stands at place k(k+1)/2 + j. Later places keep their
+// content. Gives the number of a refusal, or 0. The recovery plays no part.
+pub fn fill(
+    pool: Pool,
+    low_significands: &mut [u32],
+    high_significands: &mut [u32],
+    low_exponents: &mut [i32],
+    high_exponents: &mut [i32],
+) -> u32
+    ensures { λ r. ⌜ Fills pool
+        (store (now («low_significands» .entry)) (now («high_significands» .entry)) (now («low_exponents» .entry)) (now («high_exponents» .entry)))
+        (store (now («low_significands» .exit)) (now («high_significands» .exit)) (now («low_exponents» .exit)) (now («high_exponents» .exit)))
+        r ⌝ }
+{
+    let refusal = grounds::fill_refusal(
+        pool.assets,
+        pool.probability,
+        pool.correlation,
+        low_significands.len(),
+        high_significands.len(),
+        low_exponents.len(),
+        high_exponents.len(),
+    );
+    if refusal != 0 {
+        return refusal;
+    }
+    fill_both(
+        pool,
+        low_significands,
+        high_significands,
+        low_exponents,
+        high_exponents,
+    );
+    0
+}

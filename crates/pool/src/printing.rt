@@ -1,0 +1,49 @@
+// Prints the column of a pool.
+use super::Pool;
+use super::filling::fill_both;
+use kept::Side;
+ghost use Rattle.pool.specs.Stores.{store};
+ghost use Rattle.pool.specs.Calls.{Prints};
+
+// Writes rows 0 to n of the column: row k, in units, is the printed tail at k less that at k + 1. Later places keep their content.
+// The store is filled on the way. Gives the number of a refusal, or 0. The recovery plays no part.
+pub fn column(
+    pool: Pool,
+    low_significands: &mut [u32],
+    high_significands: &mut [u32],
+    low_exponents: &mut [i32],
+    high_exponents: &mut [i32],
+    units: &mut [u32],
+) -> u32
+    ensures { λ r. ⌜ Prints pool
+        (store (now («low_significands» .entry)) (now («high_significands» .entry)) (now («low_exponents» .entry)) (now («high_exponents» .entry)))
+        (store (now («low_significands» .exit)) (now («high_significands» .exit)) (now («low_exponents» .exit)) (now («high_exponents» .exit)))
+        (now (units .entry))
+        (now (units .exit))
+        r ⌝ }
+{
+    let refusal = grounds::column_refusal(
+        pool.assets,
+        pool.probability,
+        pool.correlation,
+        low_significands.len(),
+        high_significands.len(),
+        low_exponents.len(),
+        high_exponents.len(),
+        units.len(),
+    );
+    if refusal != 0 {
+        return refusal;
+    }
+    let rows = fill_both(
+        pool,
+        low_significands,
+        high_significands,
+        low_exponents,
+        high_exponents,
+    );
+    let row = rows.low;
+    let chances = chances::chances(pool.assets, row, Side::Low);
+    chances::print_rows(pool.assets, chances, units);
+    0
+}

@@ -1,0 +1,154 @@
+-- `passes` meets its contract.
+-- Assumes nothing.
+use Prim.Native.Nat.{suc, _+_, _-_, _≤_}
+use mathlib.Core.Path.{_≡_}
+use native.Mathlib.Nat.{le-refl}
+use native.Mathlib.Numerals.{add-one}
+use native.Mathlib.Omega.{arith}
+use Rattle.model.specs.Passes.{passed}
+use Rattle.kept.specs.Rounding.{nought}
+use Rattle.steps.specs.Exponents.{is-ρ}
+use Rattle.steps.specs.Pool.{largestPool}
+use Rattle.rows.specs.Working.{workingPlaces, Becomes, passStep}
+use Rattle.rows.specs.Working.Laws.{row-operand, Changed, changed-none, changed-more, changed-rest, passEach, pass-more, pass-operands}
+use Rattle.rows.proofs.passes.Statement.{statement}
+use Rattle.rows.proofs.passes.Tie as tie
+
+abbrev Inv-loop2 : tie.InvT-loop2
+Inv-loop2 rho k side w₀ s j₀ j-end w j = (j ≤ j-end) × Changed (passEach side rho) (suc k) j w₀ w
+
+abbrev μ-loop2 : tie.MeasureT-loop2
+μ-loop2 rho k side w₀ s j₀ j-end w j = j-end - j
+
+abbrev Inv-loop : tie.InvT-loop
+Inv-loop rho k side w₀ s₀ w s = (s ≤ k) × Becomes (suc k) w₀ w (passed (passStep side rho) (suc k) s)
+
+abbrev μ-loop : tie.MeasureT-loop
+μ-loop rho k side w₀ s₀ w s = k - s
+
+loop-holds : tie.Need-loop-holds Inv-loop2 μ-loop2 Inv-loop μ-loop
+unfolding passed
+loop-holds c = (omega arith, record { made = λ f entries. entries })
+
+sub-j-end : tie.Need-sub-j-end Inv-loop2 μ-loop2 Inv-loop μ-loop
+sub-j-end c = omega arith
+
+loop2-holds : tie.Need-loop2-holds Inv-loop2 μ-loop2 Inv-loop μ-loop
+loop2-holds c = (omega arith, changed-none)
+
+mul-x : tie.Need-mul-x Inv-loop2 μ-loop2 Inv-loop μ-loop
+unfolding largestPool
+mul-x c = omega arith
+
+array-copy-out-x : tie.Need-array-copy-out-x Inv-loop2 μ-loop2 Inv-loop μ-loop
+unfolding largestPool
+array-copy-out-x c = omega arith
+
+add-y : tie.Need-add-y Inv-loop2 μ-loop2 Inv-loop μ-loop
+unfolding largestPool
+add-y c = omega arith
+
+mul-y : tie.Need-mul-y Inv-loop2 μ-loop2 Inv-loop μ-loop
+unfolding largestPool
+mul-y c = omega arith
+
+array-copy-out-y : tie.Need-array-copy-out-y Inv-loop2 μ-loop2 Inv-loop μ-loop
+unfolding largestPool
+array-copy-out-y c = omega arith
+
+product-requires : tie.Need-product-requires Inv-loop2 μ-loop2 Inv-loop μ-loop
+unfolding nought
+product-requires c κs =
+    let turn = c .before .before .before in
+    let pass = turn .before .before in
+    let ready = pass .before .pre in
+    let j = turn .loop2 .j in (
+      rw (ready .rho-is) (row-operand (ready .range) is-ρ),
+      pass-operands (pass .loop .s) ready (pass .loop .inv .1) (turn .loop2 .inv .1) (j + 1) (omega arith) (omega arith) .0,
+    )
+
+sum-requires : tie.Need-sum-requires Inv-loop2 μ-loop2 Inv-loop μ-loop
+unfolding nought
+sum-requires c κs =
+    let turn = c .before .before .before .before in
+    let pass = turn .before .before in
+    let j = turn .loop2 .j in
+    let operands = pass-operands (pass .loop .s) (pass .before .pre) (pass .loop .inv .1) (turn .loop2 .inv .1) in
+    (operands j (omega arith) (omega arith) .0, rw (c .product .ensures) (operands (j + 1) (omega arith) (omega arith) .1))
+
+mul-w : tie.Need-mul-w Inv-loop2 μ-loop2 Inv-loop μ-loop
+unfolding largestPool
+mul-w c = omega arith
+
+array-set-from-w : tie.Need-array-set-from-w Inv-loop2 μ-loop2 Inv-loop μ-loop
+unfolding largestPool
+array-set-from-w c = omega arith
+
+add-j : tie.Need-add-j Inv-loop2 μ-loop2 Inv-loop μ-loop
+add-j c = omega arith
+
+loop2-less : tie.Need-loop2-less Inv-loop2 μ-loop2 Inv-loop μ-loop
+loop2-less c = omega arith
+
+loop2-again : tie.Need-loop2-again Inv-loop2 μ-loop2 Inv-loop μ-loop
+unfolding nought largestPool workingPlaces passEach passStep
+loop2-again c =
+    let turn = c .before .before .before .before .before in
+    let inv = turn .loop2 .inv .1 in
+    let j = turn .loop2 .j in (
+      omega arith,
+      changed-more inv (omega arith)
+          (λ f entries.
+          rw (
+            c .sum .ensures,
+            c .before .product .ensures,
+            changed-rest inv entries j (le-refl j) (omega arith),
+            changed-rest inv entries (j + 1) (omega arith) (omega arith),
+            add-one j,
+          )),
+    )
+
+add-s : tie.Need-add-s Inv-loop2 μ-loop2 Inv-loop μ-loop
+add-s c = omega arith
+
+loop-less : tie.Need-loop-less Inv-loop2 μ-loop2 Inv-loop μ-loop
+loop-less c = omega arith
+
+loop-again : tie.Need-loop-again Inv-loop2 μ-loop2 Inv-loop μ-loop
+loop-again c =
+    let pass = c .before .before .before in
+    let start = pass .before in
+    (omega arith, pass-more (start .args .side) (start .args .rho) (pass .loop .s) (pass .loop .inv .1) (c .before .loop2 .inv .1) (omega arith))
+
+returns : tie.Need-returns Inv-loop2 μ-loop2 Inv-loop μ-loop
+returns c =
+    let all : c .before .loop .s ≡ c .before .before .args .k = omega arith in
+    rw all at (c .before .loop .inv .1)
+
+pub passes-spec : {M : Type 1} → statement M
+passes-spec =
+    tie.close
+    (tie.spec
+    Inv-loop2
+    μ-loop2
+    Inv-loop
+    μ-loop
+    loop-holds
+    sub-j-end
+    loop2-holds
+    mul-x
+    array-copy-out-x
+    add-y
+    mul-y
+    array-copy-out-y
+    product-requires
+    sum-requires
+    mul-w
+    array-set-from-w
+    add-j
+    loop2-less
+    loop2-again
+    add-s
+    loop-less
+    loop-again
+    returns)

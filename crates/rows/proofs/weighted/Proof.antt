@@ -1,0 +1,92 @@
+-- `weighted` meets its contract.
+-- Assumes nothing.
+use Prim.Native.Nat.{_-_, _≤_}
+use mathlib.Core.Path.{_≡_}
+use native.Mathlib.Nat.{le-refl}
+use native.Mathlib.Omega.{arith}
+use lib.ListN.{getD}
+use Rattle.kept.specs.Rounding.{nought, roundedProduct}
+use Rattle.steps.specs.Pool.{largestPool}
+use Rattle.rows.specs.Working.{workingPlaces}
+use Rattle.rows.specs.Working.Laws.{Changed, changed-none, changed-more, changed-rest, changed-all}
+use Rattle.rows.proofs.weighted.Statement.{statement}
+use Rattle.rows.proofs.weighted.Tie as tie
+
+abbrev Inv-loop : tie.InvT-loop
+Inv-loop n side weights w₀ j₀ w j = (j ≤ n) × Changed (λ f i. roundedProduct side (f i) (getD weights i nought)) n j w₀ w
+
+abbrev μ-loop : tie.MeasureT-loop
+μ-loop n side weights w₀ j₀ w j = n - j
+
+loop-holds : tie.Need-loop-holds Inv-loop μ-loop
+loop-holds c = (omega arith, changed-none)
+
+mul-x : tie.Need-mul-x Inv-loop μ-loop
+unfolding workingPlaces largestPool
+mul-x c = omega arith
+
+array-copy-out-x : tie.Need-array-copy-out-x Inv-loop μ-loop
+unfolding workingPlaces largestPool
+array-copy-out-x c = omega arith
+
+mul-g : tie.Need-mul-g Inv-loop μ-loop
+unfolding workingPlaces largestPool
+mul-g c = omega arith
+
+array-copy-out-g : tie.Need-array-copy-out-g Inv-loop μ-loop
+unfolding workingPlaces largestPool
+array-copy-out-g c = omega arith
+
+product-requires : tie.Need-product-requires Inv-loop μ-loop
+unfolding nought
+product-requires c κs =
+    let turn = c .before .before .before in
+    let j = turn .loop .j in
+    let l = c .before .before .loop-test .taken in
+    (rw (turn .loop .inv .1 .old j (le-refl j) l) (turn .before .pre .entry j l), turn .before .pre .weight j l)
+
+mul-w : tie.Need-mul-w Inv-loop μ-loop
+unfolding workingPlaces largestPool
+mul-w c = omega arith
+
+array-set-from-w : tie.Need-array-set-from-w Inv-loop μ-loop
+unfolding workingPlaces largestPool
+array-set-from-w c = omega arith
+
+add-j : tie.Need-add-j Inv-loop μ-loop
+add-j c = omega arith
+
+loop-less : tie.Need-loop-less Inv-loop μ-loop
+loop-less c = omega arith
+
+loop-again : tie.Need-loop-again Inv-loop μ-loop
+unfolding nought
+loop-again c =
+    let turn = c .before .before .before .before in
+    let inv = turn .loop .inv .1 in
+    let j = turn .loop .j in
+    (omega arith, changed-more inv (omega arith) (λ f entries. rw (c .product .ensures, changed-rest inv entries j (le-refl j) (omega arith))))
+
+returns : tie.Need-returns Inv-loop μ-loop
+returns c =
+    let all : c .before .loop .j ≡ c .before .before .args .n = omega arith in
+    changed-all (rw all at (c .before .loop .inv .1))
+
+pub weighted-spec : {M : Type 1} → statement M
+weighted-spec =
+    tie.close
+    (tie.spec
+    Inv-loop
+    μ-loop
+    loop-holds
+    mul-x
+    array-copy-out-x
+    mul-g
+    array-copy-out-g
+    product-requires
+    mul-w
+    array-set-from-w
+    add-j
+    loop-less
+    loop-again
+    returns)
