@@ -21,7 +21,7 @@ fn tranche_bound(pool: Pool, tranche: Tranche, row: [Kept; 65], side: Side) -> K
     ensures { λ r. ⌜ ((wide : Wide pool tranche) → r ≡ lossBound pool tranche side wide) ⌝ }
 {
     let chances = chances::chances(pool.assets, row, side);
-    chances::expected_loss(
+    chances::loss::expected_loss(
         pool.assets,
         chances,
         pool.recovery,

@@ -44,6 +44,6 @@ pub fn column(
     );
     let row = rows.low;
     let chances = chances::chances(pool.assets, row, Side::Low);
-    chances::print_rows(pool.assets, chances, units);
+    chances::tails::print_rows(pool.assets, chances, units);
     0
 }

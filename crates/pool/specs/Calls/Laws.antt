@@ -109,6 +109,11 @@ module _ {pool : Pool} {before after : Store} where
 
 -- ---- column
 
+pub units-untouched : (n p ρ refusal : ℕ) {units : List ℕ} → (refusal ≡ 0 → ⊥) → units ≡ unitsLeft n p ρ refusal units
+unfolding unitsLeft
+units-untouched n p ρ zero some = absurd (some refl)
+units-untouched n p ρ (suc r) some = refl
+
 module _ (n p ρ : ℕ) (accepted : PoolAccepted n p ρ) (units : List ℕ) {units′ : List ℕ} (is : units′ ≡ unitsLeft n p ρ 0 units) where
   row-printed : {k : ℕ} → k ≤ n → getD units′ k 0 ≡ printedRow n (keptDefaults Low n p ρ) k
   unfolding unitsLeft

@@ -22,13 +22,28 @@ use Rattle.steps.specs.Loss.Laws.{high-to-two}
 use Rattle.steps.specs.Pool.{keptDefaults, keptPoolTail, keptPoolLoss, poolLoss, PoolNumber, of-rows, of-chances, of-tails, of-losses}
 use Rattle.steps.specs.Pool.Theorems.{enclosure, exponents, printed}
 use Rattle.rows.specs.Working.{Entries}
+use Rattle.rows.specs.Store.{Fillable}
 use Rattle.grounds.specs.Grounds.{PoolAccepted, TrancheAccepted}
-use Rattle.chances.specs.Chances.{ChancesReady, Chanced}
+use Rattle.chances.specs.Chances.{ChancesReady, ChancesMade}
 use Rattle.chances.specs.Tails.{TailsReady}
 use Rattle.chances.specs.Loss.{LossReady}
 use Rattle.pool.specs.declared.Pool.{Pool}
 use Rattle.pool.specs.declared.Tranche.{Tranche}
-use Rattle.pool.specs.Table.{Answerable}
+use Rattle.pool.specs.Stores.{Store, lengths, half}
+use Rattle.pool.specs.Table.{Ready, Answerable}
+
+-- The two slices of a side are long enough for it.
+pub fillable : (side : Side) {pool : Pool} {s : Store} → Ready pool s
+    → Fillable (pool .assets) (pool .probability) (pool .correlation) (half side s .significands) (half side s .exponents)
+unfolding half lengths
+fillable Low ready =
+    let pool = ready .accepted .pool in
+    let places = ready .accepted .store in
+    record { assets = pool .assets .most; probability = pool .probability; correlation = pool .correlation; significands = places .0; exponents = places .1 .1 .0 }
+fillable High ready =
+    let pool = ready .accepted .pool in
+    let places = ready .accepted .store in
+    record { assets = pool .assets .most; probability = pool .probability; correlation = pool .correlation; significands = places .1 .0; exponents = places .1 .1 .1 .0 }
 
 module _ (n p ρ : ℕ) (accepted : PoolAccepted n p ρ) where
   in-range : (side : Side) {x : Kept} → PoolNumber side n p ρ x → Ranged x
@@ -44,9 +59,9 @@ module _ (n p ρ : ℕ) (accepted : PoolAccepted n p ρ) where
   }
 
   -- The chances that step 4 makes of row n.
-  pub chances-made : (side : Side) {row c : List Kept} → Entries (suc n) row (keptRow side p ρ n) → Chanced side n (suc n) row c → Entries (suc n) c (keptDefaults side n p ρ)
+  pub chances-made : (side : Side) {row c : List Kept} → Entries (suc n) row (keptRow side p ρ n) → ChancesMade side n row c → Entries (suc n) c (keptDefaults side n p ρ)
   unfolding keptDefaults
-  chances-made side last chanced = chanced .chances (keptRow side p ρ n) last
+  chances-made side last made = made .chances (keptRow side p ρ n) last
 
   chance-in-range : (side : Side) (j : ℕ) → j ≤ n → Ranged (keptDefaults side n p ρ j)
   unfolding keptDefaults

@@ -1,0 +1,48 @@
+-- `fill` meets its contract.
+-- Assumes nothing.
+use mathlib.Core.Path.{_≡_, refl, sym, _∙_}
+use borrow.Author.Needs.{needs}
+use Rattle.grounds.specs.Grounds.Laws.{fill-accepted}
+use Rattle.pool.specs.Stores.{store, lengths}
+use Rattle.pool.specs.Calls.{fillRefusal}
+use Rattle.pool.specs.Calls.Laws.{store-untouched, store-filled}
+use Rattle.pool.proofs.filling.fill.Statement.{statement}
+use Rattle.pool.proofs.filling.fill.Tie as tie
+
+fill-refusal-requires : tie.Need-fill-refusal-requires
+fill-refusal-requires c κs = search needs
+
+returns : tie.Need-returns
+unfolding fillRefusal lengths store
+returns c = record { refusal-is = c .before .fill-refusal .ensures; leaves = store-untouched (c .before .fill-refusal .result) (c .if1 .taken) refl }
+
+fill-both-requires : tie.Need-fill-both-requires
+unfolding lengths store
+fill-both-requires c κs =
+    let none = c .before .before .before .before in
+    record { accepted = fill-accepted _ _ _ _ (sym (none .before .fill-refusal .ensures) ∙ none .if1 .left) }
+
+same-length : tie.Need-same-length
+same-length c = search needs
+
+same-length-2 : tie.Need-same-length-2
+same-length-2 c = search needs
+
+same-length-3 : tie.Need-same-length-3
+same-length-3 c = search needs
+
+same-length-4 : tie.Need-same-length-4
+same-length-4 c = search needs
+
+returns-2 : tie.Need-returns-2
+unfolding fillRefusal lengths store
+returns-2 c =
+    let filled = c .before .before .before .before .before .before in
+    let none = filled .before .before .before .before .before in
+    let refusal = sym (none .if1 .left) ∙ none .before .fill-refusal .ensures in
+    record { refusal-is = refusal; leaves = store-filled (fill-accepted _ _ _ _ (sym refusal) .pool) (filled .fill-both .ensures .store-is) }
+
+pub fill-spec : {M : Type 1} → statement M
+fill-spec =
+    tie.close
+    (tie.spec fill-refusal-requires returns fill-both-requires same-length same-length-2 same-length-3 same-length-4 returns-2)

@@ -1,0 +1,44 @@
+-- `fill_both` meets its contract.
+-- Assumes nothing.
+use mathlib.Core.Path.{refl}
+use borrow.Author.Needs.{needs}
+use Rattle.kept.specs.declared.Side.the-variants.{Low, High}
+use Rattle.pool.specs.Stores.{store, half, filledHalf, storeLeft}
+use Rattle.pool.specs.Table.Laws.{fillable}
+use Rattle.pool.proofs.filling.fill_both.Statement.{statement}
+use Rattle.pool.proofs.filling.fill_both.Tie as tie
+
+fill-side-requires : tie.Need-fill-side-requires
+unfolding store half
+fill-side-requires c κs = fillable Low (c .before .before .before .before .pre)
+
+fill-side-requires-2 : tie.Need-fill-side-requires-2
+unfolding store half
+fill-side-requires-2 c κs = fillable High (c .before .before .before .before .before .before .before .before .before .before .pre)
+
+same-length : tie.Need-same-length
+same-length c = search needs
+
+same-length-2 : tie.Need-same-length-2
+same-length-2 c = search needs
+
+same-length-3 : tie.Need-same-length-3
+same-length-3 c = search needs
+
+same-length-4 : tie.Need-same-length-4
+same-length-4 c = search needs
+
+returns : tie.Need-returns
+unfolding store storeLeft filledHalf
+returns c =
+    let low = c .before .before .before .before .before .before .before .before .before .fill-side .ensures in
+    let high = c .before .before .before .fill-side2 .ensures in
+    record {
+      store-is = rw (low .significands, low .exponents, high .significands, high .exponents) refl;
+      low-row = low .last;
+      high-row = high .last;
+    }
+
+pub fill-both-spec : {M : Type 1} → statement M
+fill-both-spec =
+    tie.close (tie.spec fill-side-requires fill-side-requires-2 same-length same-length-2 same-length-3 same-length-4 returns)

@@ -1,0 +1,106 @@
+-- `column` meets its contract.
+-- Assumes nothing.
+use mathlib.Core.Path.{_≡_, refl, sym, _∙_}
+use borrow.Author.Needs.{needs}
+use lib.ListN.{length}
+use Rattle.kept.specs.declared.Side.the-variants.{Low}
+use Rattle.grounds.specs.Grounds.{ColumnAccepted}
+use Rattle.grounds.specs.Grounds.Laws.{column-accepted}
+use Rattle.pool.specs.Stores.{Store, store, lengths}
+use Rattle.pool.specs.Calls.{columnRefusal, unitsLeft}
+use Rattle.pool.specs.Calls.Laws.{store-untouched, store-filled, units-untouched, column-holds}
+use Rattle.pool.specs.Table.Laws.{chances-ready, chances-made, tails-ready}
+use Rattle.pool.proofs.printing.column.Statement.{statement}
+use Rattle.pool.proofs.printing.column.Tie as tie
+
+-- The store at entry.
+abbrev entry : tie.Start → Store
+entry c = store (c .args .low-significands .now) (c .args .high-significands .now) (c .args .low-exponents .now) (c .args .high-exponents .now)
+
+-- No ground applies.
+none : (c : tie.Else1) → columnRefusal (c .before .before .before .before .before .args .pool) (entry (c .before .before .before .before .before)) (c .before .before .before .before .before .args .units .now) ≡ 0
+unfolding columnRefusal lengths store
+none c = sym (c .before .column-refusal .ensures) ∙ c .if1 .left
+
+abbrev Accepted : tie.Start → Type 0
+Accepted c =
+    ColumnAccepted (c .args .pool .assets) (c .args .pool .probability) (c .args .pool .correlation) (lengths (entry c)) (length (c .args .units .now))
+
+accepted : (c : tie.Else1) → Accepted (c .before .before .before .before .before)
+unfolding columnRefusal
+accepted c = column-accepted _ _ _ _ _ (none c)
+
+column-refusal-requires : tie.Need-column-refusal-requires
+column-refusal-requires c κs = search needs
+
+returns : tie.Need-returns
+unfolding columnRefusal lengths store
+returns c =
+    let refusal = c .before .column-refusal in
+    record {
+      refusal-is = refusal .ensures;
+      leaves = store-untouched (refusal .result) (c .if1 .taken) refl;
+      units-are = units-untouched _ _ _ (refusal .result) (c .if1 .taken);
+      holds-column = λ none. absurd (c .if1 .taken none);
+    }
+
+fill-both-requires : tie.Need-fill-both-requires
+unfolding lengths store
+fill-both-requires c κs = record { accepted = accepted (c .before .before .before .before) .fill }
+
+chances-requires : tie.Need-chances-requires
+chances-requires c κs =
+    let filled = c .before .before .before .before .before .before .before in
+    chances-ready _ _ _ (accepted (filled .before .before .before .before .before) .fill .pool) Low (filled .fill-both .ensures .low-row)
+
+print-rows-requires : tie.Need-print-rows-requires
+print-rows-requires c κs =
+    let filled = c .before .before .before .before .before .before .before .before .before in
+    let ok = accepted (filled .before .before .before .before .before) in
+    (tails-ready _ _ _ (ok .fill .pool) (chances-made _ _ _ (ok .fill .pool) Low (filled .fill-both .ensures .low-row) (c .before .chances .ensures)), ok .column)
+
+same-length : tie.Need-same-length
+same-length c = search needs
+
+same-length-2 : tie.Need-same-length-2
+same-length-2 c = search needs
+
+same-length-3 : tie.Need-same-length-3
+same-length-3 c = search needs
+
+same-length-4 : tie.Need-same-length-4
+same-length-4 c = search needs
+
+same-length-5 : tie.Need-same-length-5
+same-length-5 c = search needs
+
+returns-2 : tie.Need-returns-2
+unfolding unitsLeft
+returns-2 c =
+    let given = c .before .before .before .before in
+    let filled = given .before .before .before .before .before .before .before .before in
+    let else1 = filled .before .before .before .before .before in
+    let pool = accepted else1 .fill .pool in
+    let printed = c .before .before .print-rows .ensures .rows _ (chances-made _ _ _ pool Low (filled .fill-both .ensures .low-row) (given .chances .ensures)) in
+    record {
+      refusal-is = sym (none else1);
+      leaves = store-filled pool (filled .fill-both .ensures .store-is);
+      units-are = printed;
+      holds-column = λ _. column-holds _ _ _ pool _ printed;
+    }
+
+pub column-spec : {M : Type 1} → statement M
+column-spec =
+    tie.close
+    (tie.spec
+    column-refusal-requires
+    returns
+    fill-both-requires
+    chances-requires
+    print-rows-requires
+    same-length
+    same-length-2
+    same-length-3
+    same-length-4
+    same-length-5
+    returns-2)
