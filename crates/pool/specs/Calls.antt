@@ -6,7 +6,7 @@ use mathlib.Core.List.{List, []}
 use lib.ListN.{length, getD, take, drop}
 use Rattle.model.specs.Number.{sum}
 use Rattle.model.specs.Fraction.{Fraction, integer}
-use Rattle.model.specs.Chances.{chance}
+use Rattle.model.specs.Chances.{chance, tail}
 use Rattle.model.specs.CorrelatedBinomial.{defaults}
 use Rattle.kept.specs.declared.Kept.{Kept}
 use Rattle.kept.specs.declared.Side.{Side}
@@ -15,7 +15,7 @@ use Rattle.steps.specs.Rows.{keptRow}
 use Rattle.steps.specs.Column.{unitsOfCertainty, printedTail, printedRow, exactUnits, Within, tenths}
 use Rattle.steps.specs.Enclosure.{Enclosed}
 use Rattle.steps.specs.Loss.{LossAnswer, lossAnswer, Says}
-use Rattle.steps.specs.Pool.{keptDefaults, keptPoolLoss, poolLoss}
+use Rattle.steps.specs.Pool.{keptDefaults, keptPoolTail, keptPoolLoss, poolLoss}
 use Rattle.rows.specs.Store.{tabulate, overwritten, storedSignificands}
 use Rattle.grounds.specs.Grounds.{firstGround, fillGrounds, rowGrounds, columnGrounds, lossGrounds}
 use Rattle.pool.specs.declared.Pool.{Pool}
@@ -70,13 +70,16 @@ module _ (n p ρ : ℕ) where
   unitsLeft (suc r) units = units
 
   -- What holds of the rows that stand in the slice: they add to exactly 100,000 units; each is what its printed tail has more than the next, so that none is
-  -- below zero; row n is its own tail; each is less than 1.5 units from the exact chance.
+  -- below zero; row n is its own tail; each is less than 1.5 units from the exact chance. And of the chances and tails that they are printed from: their
+  -- bounds are round the exact ones, at most one part in 100,000 apart.
   pub record HoldsColumn (units : List ℕ) : Type 0 where
     pub total : sum (suc n) (λ k. getD units k 0) ≡ unitsOfCertainty
     pub difference : (k : ℕ) → k ≤ n
         → getD units k 0 + printedTail n (keptDefaults Low n p ρ) (suc k) ≡ printedTail n (keptDefaults Low n p ρ) k
     pub last : getD units n 0 ≡ printedTail n (keptDefaults Low n p ρ) n
     pub near : (k : ℕ) → k ≤ n → Within (tenths 15) (integer (getD units k 0)) (exactUnits (chance (defaults n p ρ) k))
+    pub chances : (j : ℕ) → j ≤ n → Enclosed 100000 (keptDefaults Low n p ρ j) (keptDefaults High n p ρ j) (chance (defaults n p ρ) j)
+    pub tails : (k : ℕ) → k ≤ n → Enclosed 100000 (keptPoolTail Low n p ρ k) (keptPoolTail High n p ρ k) (tail (defaults n p ρ) k)
 
 pub record Prints (pool : Pool) (before after : Store) (units units′ : List ℕ) (refusal : ℕ) : Type 0 where
   pub refusal-is : refusal ≡ columnRefusal pool before units

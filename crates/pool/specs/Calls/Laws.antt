@@ -127,11 +127,14 @@ module _ (n p ρ : ℕ) (accepted : PoolAccepted n p ρ) (units : List ℕ) {uni
   unfolding defaults
   column-holds =
       let prints = column n p ρ (accepted .probability) (accepted .correlation) (accepted .assets .most) in
+      let bounds = enclosure n p ρ (accepted .probability) (accepted .correlation) (accepted .assets .most) in
       record {
         total = sum-cong (suc n) (λ k l. row-printed (omega arith)) ∙ prints .total;
         difference = λ k l. rw (row-printed l) (prints .difference k);
         last = row-printed (le-refl n) ∙ prints .last;
         near = λ k l. rw (row-printed l) (prints .near k l);
+        chances = λ j l. bounds .chances l;
+        tails = λ k _. bounds .tails k;
       }
 
 -- ---- loss

@@ -1,0 +1,4 @@
+pub mod Ascii
+pub mod Line
+pub mod Table
+pub mod Cases
