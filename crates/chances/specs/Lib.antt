@@ -2,4 +2,3 @@ pub mod Orders
 pub mod Chances
 pub mod Tails
 pub mod Loss
-pub mod Pool

@@ -15,6 +15,7 @@ use Rattle.steps.specs.Pool.{largestPool}
 use Rattle.rows.specs.Working.{Entries}
 use Rattle.rows.specs.Store.{tabulate, overwritten}
 pub mod Laws
+pub mod Units
 pub mod Slices
 
 -- What step 5 asks of the chances: they and their tails have exponents in their range, no tail is above one, and the printed tails do not grow.

@@ -1,4 +1,4 @@
--- `chances` meets its contract.
+-- `chances` meets its contract. At the loop's head the chances of fewer than j defaults are made.
 -- Assumes nothing.
 use Prim.Native.Nat.{suc, _-_, _≤_}
 use mathlib.Core.Path.{_≡_, refl}

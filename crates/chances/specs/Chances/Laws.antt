@@ -3,11 +3,8 @@
 use Prim.Native.Nat.{ℕ, suc, _+_, _≤_, _<_}
 use mathlib.Core.Path.{_≡_, ap, ap₂, _∙_}
 use mathlib.Core.List.{List}
-use native.Mathlib.Decide.{decLt}
-use native.Mathlib.Numerals.{add-one}
 use native.Mathlib.Omega.{arith}
-use lib.ListN.{length, getD, set, length-set}
-use lib.Seq.{getD-set-same, getD-set-other}
+use lib.ListN.{length, getD, set}
 use Rattle.model.specs.Number.{choose}
 use Rattle.kept.specs.declared.Kept.{Kept}
 use Rattle.kept.specs.declared.Side.{Side}
@@ -16,6 +13,7 @@ use Rattle.steps.specs.Chances.{keptChance}
 use Rattle.steps.specs.Exponents.{Ranged, is-count}
 use Rattle.steps.specs.Exponents.Laws.{ranged-operand}
 use Rattle.rows.specs.Working.{Entries, workingPlaces}
+use Rattle.rows.specs.Working.Laws.{entries-more}
 use Rattle.chances.specs.Chances.{ChancesReady, ChancesMade}
 use Rattle.chances.specs.Orders.{Orders}
 
@@ -24,16 +22,6 @@ use Rattle.chances.specs.Orders.{Orders}
 pub entry-operand : {n : ℕ} {row : List Kept} {f : ℕ → Kept} → Entries (suc n) row f → ((j : ℕ) → j ≤ n → Ranged (f j))
     → (j : ℕ) → j ≤ n → Operand (getD row j nought)
 entry-operand entries ranged j l = rw (entries .entry j (omega arith)) (ranged-operand (ranged j l))
-
--- One more entry.
-entries-next : {m : ℕ} {row : List Kept} {f : ℕ → Kept} → Entries m row f → m < workingPlaces → (x : Kept) → x ≡ f m → Entries (suc m) (set row m x) f
-entries-next {m} {row} e l x is = record {
-  places = length-set row m x ∙ e .places;
-  entry = λ j below. elim (decLt j m) [
-    | yes before ↦ getD-set-other row m j x nought (λ here. absurd (omega arith)) ∙ e .entry j before
-    | no last ↦ let here : j ≡ m = omega arith in rw here (getD-set-same row m x nought (omega (arith, e .places)) ∙ is)
-  ];
-}
 
 -- ---- chances
 
@@ -63,6 +51,5 @@ module _ {side : Side} {n : ℕ} {row : List Kept} where
     unfolding workingPlaces keptChance
     chances-next done y product = record {
       chances = λ entry e.
-          rw (add-one j)
-          (entries-next (done .chances entry e) (omega (arith, ready .assets)) y (product ∙ ap₂ (roundedProduct side) count-is (e .entry j (omega arith))));
+          entries-more (done .chances entry e) (omega (arith, ready .assets)) (product ∙ ap₂ (roundedProduct side) count-is (e .entry j (omega arith)));
     }

@@ -62,7 +62,8 @@ module _ {side : Side} {n : ℕ} {chances : List Kept} {R A B : ℕ} (ready : Lo
       pub term-operand : Operand y
       term-operand = rw (term-is (ready .chance) (ready .entries)) (ranged-operand (ready .ranged (is-term X l)))
 
-      pub terms-next : {total z : Kept} → LossBelow side n chances R A B X total → z ≡ roundedSum side total y → LossBelow side n chances R A B (X + 1) z
+      pub terms-next : {total z : Kept} → LossBelow side n chances R A B X total → z ≡ roundedSum side total y
+          → LossBelow side n chances R A B (X + 1) z
       unfolding keptTotal
       terms-next done added = record { terms = λ c e. rw (add-one X) (added ∙ ap₂ (roundedSum side) (done .terms c e) (term-is c e)) }
 

@@ -16,7 +16,7 @@ use Rattle.steps.specs.Pool.{largestPool}
 use Rattle.rows.specs.Working.{workingPlaces}
 use Rattle.chances.specs.Orders.{Orders}
 
--- Only C(0,0) is as large as 2^n.
+-- C(n,j) is below 2^n but for n = 0, so that the counts of 64 assets fit a word.
 choose-below : (n j : ℕ) → choose (suc n) j < 2 ^ suc n
 unfolding choose
 choose-below n zero = rw pow-succ' (omega (arith, pow-pos n))
@@ -28,7 +28,7 @@ unfolding choose
 choose-all zero = refl
 choose-all (suc n) = omega (arith, choose-all n, choose-past n (suc n) (lt-suc-self n))
 
--- All places are one before the first rule is applied.
+-- What every row starts as.
 abbrev ones : List ℕ
 ones = replicate 65 1
 
@@ -52,7 +52,7 @@ module _ {k : ℕ} (few : k < largestPool) where
   }
 
   module _ {row : List ℕ} (orders : Orders k row) (j : ℕ) (l : j < k) where
-    pub pascal-rule : getD row j 0 + getD row (j + 1) 0 ≡ choose (suc k) (suc j)
+    pascal-rule : getD row j 0 + getD row (j + 1) 0 ≡ choose (suc k) (suc j)
     unfolding choose
     pascal-rule = rw (add-one j) (ap₂ _+_ (orders .count j (le-of-lt l)) (orders .count (suc j) l))
 

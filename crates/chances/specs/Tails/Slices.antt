@@ -1,20 +1,15 @@
 -- A slice that is written place by place from its start.
 -- Assumes nothing.
-use Prim.Native.Nat.{ℕ, zero, suc, _+_, _<_}
+use Prim.Native.Nat.{ℕ, zero, suc, _<_}
 use mathlib.Core.Path.{_≡_, refl, sym, ap, ap₂, _∙_}
 use mathlib.Core.List.{List, [], _∷_, _++_}
 use native.Mathlib.Nat.{le-step, lt-suc-self}
-use native.Mathlib.Omega.{arith}
-use lib.ListN.{length, set, drop, length-append}
+use lib.ListN.{length, set, drop}
 use lib.Seq.{drop-cons, set-at, append-snoc}
 use Rattle.rows.specs.Store.{tabulate, overwritten}
+use Rattle.rows.specs.Store.Laws.{length-tabulate}
 
 module _ {A : Type 0} where
-  tabulated-length : (f : ℕ → A) (m : ℕ) → length (tabulate m f) ≡ m
-  unfolding tabulate
-  tabulated-length f zero = refl
-  tabulated-length f (suc m) = rw (length-append, tabulated-length f m) (omega arith)
-
   pub tabulated-same : {f g : ℕ → A} (m : ℕ) → ((k : ℕ) → k < m → f k ≡ g k) → tabulate m f ≡ tabulate m g
   unfolding tabulate
   tabulated-same zero h = refl
@@ -29,8 +24,8 @@ module _ {A : Type 0} where
   unfolding tabulate overwritten
   overwritten-next f m old l =
       let done : List A = tabulate m f in
-      ap (λ k. set (done ++ drop k old) m (f m)) (tabulated-length f m)
+      ap (λ k. set (done ++ drop k old) m (f m)) (length-tabulate m f)
       ∙ ap (λ rest. set (done ++ rest) m (f m)) (drop-cons old m (f m) l)
-      ∙ set-at done _ _ (f m) m (tabulated-length f m)
+      ∙ set-at done _ _ (f m) m (length-tabulate m f)
       ∙ sym (append-snoc done (f m) (drop (suc m) old))
-      ∙ ap (λ k. (done ++ (f m ∷ [])) ++ drop k old) (sym (tabulated-length f (suc m)))
+      ∙ ap (λ k. (done ++ (f m ∷ [])) ++ drop k old) (sym (length-tabulate (suc m) f))

@@ -1,4 +1,4 @@
--- `loss::expected_loss` meets its contract.
+-- `loss::expected_loss` meets its contract. At the loop's head the terms of fewer than x defaults are added.
 -- Assumes nothing.
 use Prim.Native.Nat.{suc, _-_, _≤_}
 use mathlib.Core.Path.{_≡_}

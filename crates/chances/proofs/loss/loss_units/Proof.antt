@@ -1,4 +1,4 @@
--- `loss::loss_units` meets its contract.
+-- `loss::loss_units` meets its contract. No product of basis points is above 10,000 × 10,000.
 -- Assumes nothing.
 use Prim.Native.Nat.{_*_, min}
 use mathlib.Core.Path.{_≡_}
@@ -27,7 +27,8 @@ unfolding whole largestPool
 mul-least c = record { fits = basis-points-word (omega arith) (omega arith) }
 
 -- The smaller of what is lost and what is lost at the upper attachment.
-cut : (c : tie.Joined1) → c .if1 .cut ≡ min (c .before .args .defaults * complement (c .before .args .recovery)) (c .before .args .upper * c .before .args .n)
+cut : (c : tie.Joined1)
+    → c .if1 .cut ≡ min (c .before .args .defaults * complement (c .before .args .recovery)) (c .before .args .upper * c .before .args .n)
 unfolding whole complement
 cut c = ⊎-elim (λ w. omega (arith, w)) (λ w. omega (arith, w)) (c .if1 .came)
 

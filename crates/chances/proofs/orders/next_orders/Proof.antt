@@ -1,4 +1,4 @@
--- `orders::next_orders` meets its contract.
+-- `orders::next_orders` meets its contract. At the loop's head the counts 0 to j of k + 1 assets are made.
 -- Assumes nothing.
 use Prim.Native.Nat.{suc, _-_, _≤_, _<_}
 use mathlib.Core.Path.{_≡_}

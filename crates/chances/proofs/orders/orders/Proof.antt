@@ -1,4 +1,4 @@
--- `orders::orders` meets its contract.
+-- `orders::orders` meets its contract. At the loop's head the row has the counts of k assets.
 -- Assumes nothing.
 use Prim.Native.Nat.{_-_, _≤_}
 use mathlib.Core.Path.{_≡_}

@@ -1,4 +1,4 @@
--- `tails::in_units` meets its contract.
+-- `tails::in_units` meets its contract. A number of at most one has an exponent of at most zero, and the shift is by that negated.
 -- Assumes nothing.
 use Prim.Native.Nat.{_<_}
 use mathlib.Core.Path.{_≡_, sym, ap, _∙_}
@@ -10,7 +10,7 @@ use lib.Pow.{pow-pos}
 use mir.Facts.{toZ-ofZ}
 use mir.Syntax.{w32}
 use mir.Val.{SFits, toZ, ofZ}
-use Rattle.chances.specs.Tails.Laws.{Fractional, kept-fractional, places-back, places-few, places-many, units-shifted, units-none}
+use Rattle.chances.specs.Tails.Units.{Fractional, kept-fractional, places-back, places-few, places-many, units-shifted, units-none}
 use Rattle.chances.proofs.tails.in_units.Statement.{statement}
 use Rattle.chances.proofs.tails.in_units.Tie as tie
 

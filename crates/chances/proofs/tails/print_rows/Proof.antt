@@ -1,4 +1,4 @@
--- `tails::print_rows` meets its contract.
+-- `tails::print_rows` meets its contract. At the loop's head the first k differences of tails stand in the slice.
 -- Assumes nothing.
 use Prim.Native.Nat.{suc, _-_, _≤_}
 use mathlib.Core.Path.{_≡_}

@@ -1,4 +1,4 @@
--- `tails::printed_tails` meets its contract.
+-- `tails::printed_tails` meets its contract. At the loop's head the tails past n − i are printed, and the total is the first of them.
 -- Assumes nothing.
 use Prim.Native.Nat.{_-_, _≤_}
 use mathlib.Core.Path.{_≡_}
@@ -63,7 +63,9 @@ loop-again : tie.Need-loop-again Inv-loop μ-loop
 unfolding nought
 loop-again c =
     let at-loop = c .before .before .before .before in
-    let next = tails-next (at-loop .before .before .pre) (at-loop .loop .inv .2) (c .before .before .before .loop-test .taken) (c .before .sum .ensures) (c .in-units .ensures) in
+    let next =
+    tails-next (at-loop .before .before .pre) (at-loop .loop .inv .2) (c .before .before .before .loop-test .taken)
+    (c .before .sum .ensures) (c .in-units .ensures) in
     (omega arith, omega arith, next)
 
 array-write-tails-2 : tie.Need-array-write-tails-2 Inv-loop μ-loop
