@@ -2,6 +2,7 @@
 -- Assumes nothing.
 use mathlib.Core.Path.{_≡_, refl, sym, _∙_}
 use borrow.Author.Needs.{needs}
+use native.Mathlib.Omega.{arith}
 use Rattle.grounds.specs.Grounds.Laws.{fill-accepted}
 use Rattle.pool.specs.Stores.{store, lengths}
 use Rattle.pool.specs.Calls.{fillRefusal}
@@ -9,12 +10,16 @@ use Rattle.pool.specs.Calls.Laws.{store-untouched, store-filled}
 use Rattle.pool.proofs.filling.fill.Statement.{statement}
 use Rattle.pool.proofs.filling.fill.Tie as tie
 
+-- Some ground applies.
+some : (c : tie.Then1) → c .before .fill-refusal .result ≡ 0 → ⊥
+some c none = c .if1 .taken (omega arith)
+
 fill-refusal-requires : tie.Need-fill-refusal-requires
 fill-refusal-requires c κs = search needs
 
 returns : tie.Need-returns
 unfolding fillRefusal lengths store
-returns c = record { refusal-is = c .before .fill-refusal .ensures; leaves = store-untouched (c .before .fill-refusal .result) (c .if1 .taken) refl }
+returns c = record { refusal-is = c .before .fill-refusal .ensures; leaves = store-untouched (c .before .fill-refusal .result) (some c) refl }
 
 fill-both-requires : tie.Need-fill-both-requires
 unfolding lengths store

@@ -15,6 +15,10 @@ use Rattle.pool.specs.Answers.{lossOf}
 use Rattle.pool.proofs.losses.loss_answer.Statement.{statement}
 use Rattle.pool.proofs.losses.loss_answer.Tie as tie
 
+-- The high bound is zero.
+none : (c : tie.Then1) → c .before .before .args .high .significand ≡ 0
+none c = c .if1 .taken
+
 -- The low bound is 2^−800 or more.
 shows : (c : tie.Else2) → belowShown (c .before .before .before .before .args .low) ≡ false
 shows c = sym (c .before .is-below-shown .ensures) ∙ c .if2 .left
@@ -24,7 +28,7 @@ least c = below-shown-no (c .before .before .before .before .args .low) (shows c
 
 returns : tie.Need-returns
 unfolding lossAnswer lossOf
-returns c = rw (eq-eqb _ _ (c .if1 .taken)) refl
+returns c = rw (eq-eqb _ _ (none c)) refl
 
 is-below-shown-requires : tie.Need-is-below-shown-requires
 is-below-shown-requires c κs = search needs

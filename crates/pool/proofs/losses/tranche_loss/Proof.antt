@@ -2,6 +2,7 @@
 -- Assumes nothing.
 use mathlib.Core.Path.{_≡_, refl, sym, ap, _∙_}
 use borrow.Author.Needs.{needs}
+use native.Mathlib.Omega.{arith}
 use Rattle.kept.specs.declared.Side.the-variants.{Low, High}
 use Rattle.grounds.specs.Grounds.{LossAccepted}
 use Rattle.grounds.specs.Grounds.Laws.{loss-accepted}
@@ -17,10 +18,13 @@ use Rattle.pool.proofs.losses.tranche_loss.Tie as tie
 abbrev entry : tie.Start → Store
 entry c = store (c .args .low-significands .now) (c .args .high-significands .now) (c .args .low-exponents .now) (c .args .high-exponents .now)
 
+taken : (c : tie.Then1) → c .before .loss-refusal .result ≡ 0 → ⊥
+taken c none = c .if1 .taken (omega arith)
+
 -- Some ground applies.
 some : (c : tie.Then1) → lossRefusal (c .before .before .before .before .args .pool) (c .before .before .before .before .args .tranche) (entry (c .before .before .before .before)) ≡ 0 → ⊥
 unfolding lossRefusal lengths store
-some c none = c .if1 .taken (c .before .loss-refusal .ensures ∙ none)
+some c none = taken c (c .before .loss-refusal .ensures ∙ none)
 
 -- None does.
 none : (c : tie.Else1) → lossRefusal (c .before .before .before .before .args .pool) (c .before .before .before .before .args .tranche) (entry (c .before .before .before .before)) ≡ 0

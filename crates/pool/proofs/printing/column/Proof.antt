@@ -2,6 +2,7 @@
 -- Assumes nothing.
 use mathlib.Core.Path.{_≡_, refl, sym, _∙_}
 use borrow.Author.Needs.{needs}
+use native.Mathlib.Omega.{arith}
 use lib.ListN.{length}
 use Rattle.kept.specs.declared.Side.the-variants.{Low}
 use Rattle.grounds.specs.Grounds.{ColumnAccepted}
@@ -17,7 +18,11 @@ use Rattle.pool.proofs.printing.column.Tie as tie
 abbrev entry : tie.Start → Store
 entry c = store (c .args .low-significands .now) (c .args .high-significands .now) (c .args .low-exponents .now) (c .args .high-exponents .now)
 
--- No ground applies.
+-- Some ground applies.
+some : (c : tie.Then1) → c .before .column-refusal .result ≡ 0 → ⊥
+some c none = c .if1 .taken (omega arith)
+
+-- None does.
 none : (c : tie.Else1) → columnRefusal (c .before .before .before .before .before .args .pool) (entry (c .before .before .before .before .before)) (c .before .before .before .before .before .args .units .now) ≡ 0
 unfolding columnRefusal lengths store
 none c = sym (c .before .column-refusal .ensures) ∙ c .if1 .left
@@ -39,9 +44,9 @@ returns c =
     let refusal = c .before .column-refusal in
     record {
       refusal-is = refusal .ensures;
-      leaves = store-untouched (refusal .result) (c .if1 .taken) refl;
-      units-are = units-untouched _ _ _ (refusal .result) (c .if1 .taken);
-      holds-column = λ none. absurd (c .if1 .taken none);
+      leaves = store-untouched (refusal .result) (some c) refl;
+      units-are = units-untouched _ _ _ (refusal .result) (some c);
+      holds-column = λ none. absurd (some c none);
     }
 
 fill-both-requires : tie.Need-fill-both-requires

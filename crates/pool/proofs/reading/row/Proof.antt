@@ -12,12 +12,16 @@ use Rattle.pool.specs.Calls.Laws.{hands-row, row-within, part-refused, p
 use Rattle.pool.proofs.reading.row.Statement.{statement}
 use Rattle.pool.proofs.reading.row.Tie as tie
 
+-- No ground applies.
+none : (c : tie.Else1) → c .before .row-refusal .result ≡ 0
+none c = omega arith
+
 within : (c : tie.Else1) → (c .before .before .before .args .k ≤ largestPool)
     × (place (c .before .before .before .args .k) 0 + (c .before .before .before .args .k + 1) ≤ length (c .before .before .before .args .significands .now))
 unfolding rowRefusal
 within c =
     let start = c .before .before .before in
-    row-within (start .args .n) (start .args .k) (start .args .significands .now) (sym (c .before .row-refusal .ensures) ∙ c .if1 .left)
+    row-within (start .args .n) (start .args .k) (start .args .significands .now) (sym (c .before .row-refusal .ensures) ∙ none c)
 
 -- The part ends within the slice.
 ends : (c : tie.After-row-start)
@@ -73,7 +77,7 @@ returns-2 c =
     (rw (count, c .before .row-start .ensures)
     (part-accepted (start .args .n) (start .args .k) (start .args .significands .now)
     (c .before .before .before .row-refusal .ensures)
-    (c .before .before .if1 .left)))
+    (none (c .before .before))))
 
 pub row-spec : {M : Type 1} → statement M
 row-spec =
