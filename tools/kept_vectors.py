@@ -9,10 +9,7 @@ import struct
 from fractions import Fraction
 
 from kept import ZERO, bounds, value
-
-
-def line(*words):
-    print(" ".join(str(word) for word in words))
+from vectors import SEED, following, line
 
 
 def results(name, given, exact):
@@ -52,7 +49,6 @@ SIGNIFICANDS = [2**31, 2**31 + 1, 0xAAAAAAAB, 3 * 2**30, 2**32 - 2**16, 2**32 - 
 EXPONENTS = [0, 1, 30, 31, 32, 33, 1000, -1, -30, -31, -32, -33, -1000]
 DIVISORS = [1, 2, 3, 7, 10000, 640000, 2**31, 2**32 - 1]
 SHOWN_EXPONENTS = [-832, -831, -830, -31, 0, 100, 192, 193]
-SEED = 0x9E3779B97F4A7C15
 
 
 def edges():
@@ -81,13 +77,6 @@ def edges():
     for exponent in SHOWN_EXPONENTS:
         for s in SIGNIFICANDS:
             shown((s, exponent))
-
-
-def following(word):
-    """The next random word of 64 bits."""
-    word ^= (word << 13) % 2**64
-    word ^= word >> 7
-    return word ^ (word << 17) % 2**64
 
 
 def random_cases():

@@ -2,54 +2,19 @@
 // was given, then the result on the low side and on the high side. tools/kept_vectors.py works the same lines out exactly.
 use kept::Kept;
 use kept::Side;
-use libc::STDOUT_FILENO;
-ghost use mathlib.Core.Path.{_≡_};
+use vectors::next;
+use vectors::operand;
+use vectors::write;
+use vectors::write_integer;
+use vectors::write_number;
+use vectors::write_word;
 ghost use Prim.Native.Nat.{_<_};
-ghost use lib.IntN.{natAbs};
 ghost use Rattle.kept.specs.Rounding.{Operand};
-
-fn magnitude(n: i32) -> u64
-    ensures { λ r. ⌜ r ≡ natAbs n ⌝ }
-{
-    let wide = n as i64;
-    if wide < 0 {
-        (0 - wide) as u64
-    } else {
-        wide as u64
-    }
-}
-
-// The kept number with this significand and this exponent, or zero where they make no operand.
-fn operand(significand: u32, exponent: i32) -> Kept
-    ensures { λ r. ⌜ Operand r ⌝ }
-{
-    if significand >= 0x8000_0000 {
-        if magnitude(exponent) <= 1_000_000_000 {
-            return Kept {
-                significand,
-                exponent,
-            };
-        }
-    }
-    Kept::zero()
-}
-
-fn write(text: &[u8]) {
-    io::write_all(STDOUT_FILENO, text);
-}
-
-fn write_number(n: u64) {
-    io::print_decimal(STDOUT_FILENO, n);
-}
 
 fn write_kept(x: Kept) {
     write_number(x.significand as u64);
-    if x.exponent < 0 {
-        write(b" -");
-    } else {
-        write(b" ");
-    }
-    write_number(magnitude(x.exponent));
+    write(b" ");
+    write_integer(x.exponent);
 }
 
 // Ends a line with the two results.
@@ -124,9 +89,7 @@ fn write_bits(bits: Bits) {
     match bits {
         Bits::Below => write(b"below"),
         Bits::Above => write(b"above"),
-        Bits::Of(word) => {
-            io::print_hex(STDOUT_FILENO, word, 16);
-        }
+        Bits::Of(word) => write_word(word),
     }
 }
 
@@ -296,13 +259,6 @@ fn shown_exponent(i: u32) -> i32 {
 
 fn edge_shown(n: u32) {
     shown(operand(edge_significand(n % 7 + 1), shown_exponent(n / 7)));
-}
-
-// The next of a row of random words.
-fn next(word: u64) -> u64 {
-    let a = word ^ (word << 13);
-    let b = a ^ (a >> 7);
-    b ^ (b << 17)
 }
 
 fn random_significand(word: u64) -> u32 {

@@ -1,4 +1,4 @@
--- `kept_vectors::magnitude` meets its contract: what each branch casts is the natural number natAbs n.
+-- `vectors::magnitude` meets its contract: what each branch casts is the natural number natAbs n.
 -- Assumes nothing.
 use native.Mathlib.Omega.{arith}
 use mathlib.Core.Path.{_≡_, refl, sym, ap, subst, _∙_}
@@ -10,8 +10,8 @@ use lib.Signed.{ltZ, nonNeg, natAbs-le}
 use mir.Syntax.{w32, w64}
 use mir.Val.{SFits, Fits, toZ, ofZ}
 use mir.Facts.{toZ-ofZ, sfits-widen, fits-natAbs}
-use Rattle.kept_vectors.proofs.magnitude.Statement.{statement}
-use Rattle.kept_vectors.proofs.magnitude.Tie as tie
+use Rattle.vectors.proofs.magnitude.Statement.{statement}
+use Rattle.vectors.proofs.magnitude.Tie as tie
 
 -- A number as it is read back from its 64 bits, and one of 32 bits as it is read back from these.
 abbrev back : ℤ → ℤ

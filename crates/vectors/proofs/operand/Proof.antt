@@ -1,12 +1,12 @@
--- `kept_vectors::operand` meets its contract: zero is an operand, and so is what has passed the two tests.
+-- `vectors::operand` meets its contract: zero is an operand, and so is what has passed the two tests.
 -- Assumes nothing.
 use native.Mathlib.Omega.{arith}
 use mathlib.Core.Path.{sym, refl, subst}
 use mathlib.Core.Logic.{inl, inr}
 use borrow.Author.Needs.{needs}
 use Rattle.kept.specs.Rounding.{Operand, nought}
-use Rattle.kept_vectors.proofs.operand.Statement.{statement}
-use Rattle.kept_vectors.proofs.operand.Tie as tie
+use Rattle.vectors.proofs.operand.Statement.{statement}
+use Rattle.vectors.proofs.operand.Tie as tie
 
 magnitude-requires : tie.Need-magnitude-requires
 magnitude-requires c κs = search needs

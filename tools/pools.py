@@ -1,0 +1,125 @@
+"""A pool by the six steps, in exact whole numbers: each product, sum and quotient is rounded once. A side is 0 (low) or 1 (high)."""
+import struct
+from fractions import Fraction
+from math import comb
+
+from kept import ONE, ZERO, plus, product, quotient, rounded, value
+
+WHOLE = 10000
+LARGEST_POOL = 64
+UNITS = 100000
+LEAST_SHOWN = (2**31, -831)
+
+
+def steps(side, n, p, rho):
+    """Rows 0 to n, and the chances of 0 to n defaults."""
+    p_, a, rho_, q = (rounded(side, x, WHOLE) for x in (p, WHOLE - p, rho, WHOLE - rho))
+    conditional, joint = p_, p_
+    power = ONE
+    weights = []
+    rows = [[ONE]]
+    for k in range(1, n + 1):
+        weights.append(product(side, a, power))
+        power = product(side, power, q)
+        if k > 1:
+            conditional = plus(side, product(side, conditional, q), rho_)
+            joint = product(side, joint, conditional)
+        row = list(rows[k - 1])
+        for s in range(1, k):
+            old = list(row)
+            for j in range(k - s):
+                row[j] = plus(side, old[j], product(side, rho_, old[j + 1]))
+        rows.append([product(side, row[j], weights[j]) for j in range(k)] + [joint])
+    return rows, [product(side, rounded(side, comb(n, j)), rows[n][j]) for j in range(n + 1)]
+
+
+def tails(side, chances):
+    """The tail at each k, added from n down."""
+    total, result = ZERO, []
+    for chance in reversed(chances):
+        total = plus(side, total, chance)
+        result.insert(0, total)
+    return result
+
+
+def loss(side, chances, recovery, lower, upper):
+    """The expected loss of a tranche."""
+    n = len(chances) - 1
+    most = (upper - lower) * n
+    total = ZERO
+    for x, chance in enumerate(chances):
+        units = max(0, min(x * (WHOLE - recovery) - lower * n, most))
+        total = plus(side, total, product(side, chance, rounded(side, units)))
+    return quotient(side, total, most)
+
+
+def printed_tails(chances):
+    """The tails in whole units, from the chances of the low side. That past n is zero."""
+    return [UNITS] + [int(UNITS * value(x)) for x in tails(0, chances)[1:]] + [0]
+
+
+def printed_rows(chances):
+    printed = printed_tails(chances)
+    return [printed[k] - printed[k + 1] for k in range(len(chances))]
+
+
+def bits(x):
+    """The f64 of a kept number from 2^-800 to below 2^224, by its bits."""
+    significand, exponent = x
+    word = (exponent + 1054) * 2**52 + (significand - 2**31) * 2**21
+    assert Fraction(struct.unpack(">d", word.to_bytes(8, "big"))[0]) == value(x)
+    return f"{word:016x}"
+
+
+def loss_answer(low, high):
+    """Untouched, faint or shown, with the bits of its numbers."""
+    if high == ZERO:
+        return ("untouched",)
+    if value(low) < value(LEAST_SHOWN):
+        return "faint", bits(high if value(high) > value(LEAST_SHOWN) else LEAST_SHOWN)
+    return "shown", bits(low), bits(high)
+
+
+def places(n):
+    """The places of a store of rows 0 to n."""
+    return (n + 1) * (n + 2) // 2
+
+
+def store(n, p, rho):
+    """The filled store: low and high significands, low and high exponents."""
+    sides = [[x for row in steps(side, n, p, rho)[0] for x in row] for side in (0, 1)]
+    return [[x[part] for x in sides[side]] for part in (0, 1) for side in (0, 1)]
+
+
+def first(grounds):
+    """The number of the first ground that applies, or 0."""
+    return next((number for number, applies in grounds if applies), 0)
+
+
+def assets_ground(n):
+    return [(1, n == 0 or n > LARGEST_POOL)]
+
+
+def pool_grounds(n, p, rho):
+    return assets_ground(n) + [(2, p > WHOLE), (3, rho > WHOLE)]
+
+
+def store_ground(n, lengths):
+    return [(7, any(length < places(n) for length in lengths))]
+
+
+def fill_refusal(n, p, rho, lengths):
+    return first(pool_grounds(n, p, rho) + store_ground(n, lengths))
+
+
+def row_refusal(n, k, length):
+    return first(assets_ground(n) + store_ground(n, [length]) + [(9, k > n)])
+
+
+def column_refusal(n, p, rho, lengths, units):
+    return first(pool_grounds(n, p, rho) + store_ground(n, lengths) + [(8, units < n + 1)])
+
+
+def loss_refusal(n, p, rho, recovery, lower, upper, lengths):
+    tranche = [(4, recovery > WHOLE), (5, upper > WHOLE), (6, not lower < upper)]
+    return first(pool_grounds(n, p, rho) + tranche + store_ground(n, lengths))

@@ -1,0 +1,23 @@
+"""What the programs that print expected output share: lines, random words, checksums."""
+SEED = 0x9E3779B97F4A7C15
+
+
+def line(*words):
+    print(" ".join(str(word) for word in words))
+
+
+def following(word):
+    """The next random word of 64 bits."""
+    word ^= (word << 13) % 2**64
+    word ^= word >> 7
+    return word ^ (word << 17) % 2**64
+
+
+def checksum(numbers, signed=False):
+    """A word that depends on every number and on its place."""
+    word = SEED
+    for n in numbers:
+        if signed:
+            word = following(word ^ (n < 0))
+        word = following(word ^ abs(n))
+    return f"{word:016x}"
