@@ -1,6 +1,7 @@
 // The expected loss of a tranche.
 use kept::Kept;
 use kept::Side;
+use rows::PLACES;
 ghost use mathlib.Core.Path.{_≡_};
 ghost use Prim.Native.Nat.{_≤_};
 ghost use Rattle.model.specs.Chances.{lossUnits};
@@ -21,7 +22,7 @@ fn loss_units(n: u32, defaults: u32, recovery: u32, lower: u32, upper: u32) -> u
 // Chance times loss units, added for 0 to n defaults, divided by the width of the tranche.
 pub fn expected_loss(
     n: u32,
-    chances: [Kept; 65],
+    chances: [Kept; PLACES],
     recovery: u32,
     lower: u32,
     upper: u32,

@@ -1,14 +1,15 @@
 // The counts of orders, C(n,j), exactly.
+use rows::PLACES;
 ghost use Prim.Native.Nat.{suc, _≤_, _<_};
 ghost use Rattle.steps.specs.Pool.{largestPool};
 ghost use Rattle.chances.specs.Orders.{Orders};
 
 // The counts of k + 1 assets from those of k: the first and the last are one, each between is the sum of two.
-fn next_orders(row: [u64; 65], k: u32) -> [u64; 65]
+fn next_orders(row: [u64; PLACES], k: u32) -> [u64; PLACES]
     requires { ⌜ Orders k row ⌝ ∗ ⌜ k < largestPool ⌝ }
     ensures { λ r. ⌜ Orders (suc k) r ⌝ }
 {
-    let mut next = [1u64; 65];
+    let mut next = [1u64; PLACES];
     let between = k as usize;
     for j in 0..between {
         next[j + 1] = row[j] + row[j + 1];
@@ -17,11 +18,11 @@ fn next_orders(row: [u64; 65], k: u32) -> [u64; 65]
 }
 
 // C(n,0) to C(n,n).
-pub fn orders(n: u32) -> [u64; 65]
+pub fn orders(n: u32) -> [u64; PLACES]
     requires { ⌜ n ≤ largestPool ⌝ }
     ensures { λ r. ⌜ Orders n r ⌝ }
 {
-    let mut row = [1u64; 65];
+    let mut row = [1u64; PLACES];
     for k in 0..n {
         let next = next_orders(row, k);
         row = next;

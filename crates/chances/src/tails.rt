@@ -1,6 +1,7 @@
 // The printed column: its rows are differences of tails in whole units.
 use kept::Kept;
 use kept::Side;
+use rows::PLACES;
 ghost use mathlib.Core.Path.{_≡_};
 ghost use Prim.Native.Nat.{_<_};
 ghost use lib.ListN.{length};
@@ -8,6 +9,9 @@ ghost use Rattle.model.specs.Fraction.{AtMost, certainty};
 ghost use Rattle.kept.specs.Rounding.{IsKept, value};
 ghost use Rattle.steps.specs.Column.{inUnits};
 ghost use Rattle.chances.specs.Tails.{TailsReady, TailsPrinted, RowsPrinted};
+
+// The tails at 0 to n, and that past n.
+const TAILS: usize = PLACES + 1;
 
 // A number of at most one in units, rounded down. With 64 binary places or more it is below 2^−32 and has no whole unit.
 fn in_units(x: Kept) -> u32
@@ -21,11 +25,11 @@ fn in_units(x: Kept) -> u32
 }
 
 // The printed tails at 0 to n + 1.
-fn printed_tails(n: u32, chances: [Kept; 65]) -> [u32; 66]
+fn printed_tails(n: u32, chances: [Kept; PLACES]) -> [u32; TAILS]
     requires { ⌜ TailsReady n chances ⌝ }
     ensures { λ r. ⌜ TailsPrinted n chances r ⌝ }
 {
-    let mut tails = [0u32; 66];
+    let mut tails = [0u32; TAILS];
     let mut total = Kept::zero();
     let last = n as usize;
     for i in 0..last {
@@ -38,7 +42,7 @@ fn printed_tails(n: u32, chances: [Kept; 65]) -> [u32; 66]
 }
 
 // Rows 0 to n, from the chances of the low side, into the start of the slice.
-pub fn print_rows(n: u32, chances: [Kept; 65], units: &mut [u32])
+pub fn print_rows(n: u32, chances: [Kept; PLACES], units: &mut [u32])
     requires { ⌜ TailsReady n chances ⌝ ∗ ⌜ n < length (now units) ⌝ }
     ensures { λ _. ⌜ RowsPrinted n chances (now (units .entry)) (now (units .exit)) ⌝ }
 {

@@ -2,14 +2,15 @@
 use super::Pool;
 use kept::Kept;
 use kept::Side;
+use rows::PLACES;
 ghost use Rattle.pool.specs.Stores.{store};
 ghost use Rattle.pool.specs.Table.{Ready, FilledBoth};
 ghost use Rattle.pool.specs.Calls.{Fills};
 
 // Row n of either side.
 pub struct LastRows {
-    pub low: [Kept; 65],
-    pub high: [Kept; 65],
+    pub low: [Kept; PLACES],
+    pub high: [Kept; PLACES],
 }
 
 // Fills rows 0 to n of both sides, and hands back row n.

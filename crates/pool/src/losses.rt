@@ -7,6 +7,7 @@ use super::Tranche;
 use super::filling::fill_both;
 use kept::Kept;
 use kept::Side;
+use rows::PLACES;
 ghost use mathlib.Core.Path.{_≡_};
 ghost use Rattle.kept.specs.Rounding.{IsKept};
 ghost use Rattle.steps.specs.Loss.{lossAnswer, raisedToShown};
@@ -16,7 +17,7 @@ ghost use Rattle.pool.specs.Table.{TrancheReady, Answerable};
 ghost use Rattle.pool.specs.Calls.{Wide, lossBound, Replies};
 
 // The bound of the expected loss on one side, from row n of that side.
-fn tranche_bound(pool: Pool, tranche: Tranche, row: [Kept; 65], side: Side) -> Kept
+fn tranche_bound(pool: Pool, tranche: Tranche, row: [Kept; PLACES], side: Side) -> Kept
     requires { ⌜ TrancheReady pool tranche side row ⌝ }
     ensures { λ r. ⌜ ((wide : Wide pool tranche) → r ≡ lossBound pool tranche side wide) ⌝ }
 {

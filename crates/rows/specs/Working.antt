@@ -32,8 +32,8 @@ pub record InRange (n p ρ : ℕ) : Type 0 where
   pub correlation : ρ ≤ whole
 
 -- One entry of a pass, for a correlation that is a kept number already.
-unfoldable pub passStep : Side → (rho x y : Kept) → Kept
-passStep side rho x y = roundedSum side x (roundedProduct side rho y)
+unfoldable pub roundedPassStep : Side → (rho x y : Kept) → Kept
+roundedPassStep side rho x y = roundedSum side x (roundedProduct side rho y)
 
 -- What the passes over row k ask: the correlation and the row are those of a pool in range.
 pub record Passable (side : Side) (k : ℕ) (rho : Kept) (row : List Kept) : Type 0 where
@@ -43,7 +43,7 @@ pub record Passable (side : Side) (k : ℕ) (rho : Kept) (row : List Kept) : Typ
   pub rho-is : rho ≡ constant side ρ
   pub entries : Entries (suc k) row (keptRow side p ρ k)
 
--- What is asked of the first m entries of a row and of their weights.
+-- What is asked of the first m entries of a row and of their weights: each can be an operand.
 pub record Weightable (m : ℕ) (row weights : List Kept) : Type 0 where
   pub places : m ≤ workingPlaces
   pub entry : (j : ℕ) → j < m → Operand (getD row j nought)

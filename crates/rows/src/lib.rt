@@ -6,13 +6,16 @@ ghost use lib.ListN.{getD};
 ghost use Rattle.model.specs.Passes.{passed};
 ghost use Rattle.kept.specs.Rounding.{nought, roundedProduct};
 ghost use Rattle.steps.specs.Rows.{keptWeight};
-ghost use Rattle.rows.specs.Working.{Entries, Becomes, InRange, passStep, Passable, Weightable};
+ghost use Rattle.rows.specs.Working.{Entries, Becomes, InRange, roundedPassStep, Passable, Weightable};
 ghost use Rattle.rows.specs.Store.{Storable, Stored, Fillable, Filled};
 
+// The places of a working row: 65, one more than the assets of the largest pool.
+pub const PLACES: usize = 65;
+
 // Passes 1 to k over the k + 1 entries of row k. A pass goes upward, so that entry j + 1 is still the old one when entry j is made.
-fn passes(row: [Kept; 65], rho: Kept, k: usize, side: Side) -> [Kept; 65]
+fn passes(row: [Kept; PLACES], rho: Kept, k: usize, side: Side) -> [Kept; PLACES]
     requires { ⌜ Passable side k rho row ⌝ }
-    ensures { λ r. ⌜ Becomes (suc k) row r (passed (passStep side rho) (suc k) k) ⌝ }
+    ensures { λ r. ⌜ Becomes (suc k) row r (passed (roundedPassStep side rho) (suc k) k) ⌝ }
 {
     let mut w = row;
     for s in 0..k {
@@ -26,14 +29,14 @@ fn passes(row: [Kept; 65], rho: Kept, k: usize, side: Side) -> [Kept; 65]
 }
 
 // g_0 to g_(n−1).
-fn weights(p: u32, rho: u32, n: usize, side: Side) -> [Kept; 65]
+fn weights(p: u32, rho: u32, n: usize, side: Side) -> [Kept; PLACES]
     requires { ⌜ InRange n p rho ⌝ }
     ensures { λ r. ⌜ Entries n r (keptWeight side p rho) ⌝ }
 {
     let a = Kept::from_basis_points(10000 - p, side);
     let q = Kept::from_basis_points(10000 - rho, side);
     let zero = Kept::zero();
-    let mut w = [zero; 65];
+    let mut w = [zero; PLACES];
     let mut power = Kept::one();
     for j in 0..n {
         w[j] = a.product(power, side);
@@ -43,7 +46,7 @@ fn weights(p: u32, rho: u32, n: usize, side: Side) -> [Kept; 65]
 }
 
 // Entries 0 to n − 1, each times its weight.
-fn weighted(row: [Kept; 65], weights: [Kept; 65], n: usize, side: Side) -> [Kept; 65]
+fn weighted(row: [Kept; PLACES], weights: [Kept; PLACES], n: usize, side: Side) -> [Kept; PLACES]
     requires { ⌜ Weightable n row weights ⌝ }
     ensures { λ r. ⌜ Becomes n row r (λ f j. roundedProduct side (f j) (getD weights j nought)) ⌝ }
 {
@@ -57,7 +60,13 @@ fn weighted(row: [Kept; 65], weights: [Kept; 65], n: usize, side: Side) -> [Kept
 }
 
 // Writes the first entries of a row from a place on.
-fn store(row: [Kept; 65], count: usize, at: usize, significands: &mut [u32], exponents: &mut [i32])
+fn store(
+    row: [Kept; PLACES],
+    count: usize,
+    at: usize,
+    significands: &mut [u32],
+    exponents: &mut [i32],
+)
     requires { ⌜ Storable count at (now significands) (now exponents) ⌝ }
     ensures { λ _. ⌜ Stored row count at (now (significands .entry)) (now (significands .exit)) (now (exponents .entry)) (now (exponents .exit)) ⌝ }
 {
@@ -77,7 +86,7 @@ pub fn fill_side(
     side: Side,
     significands: &mut [u32],
     exponents: &mut [i32],
-) -> [Kept; 65]
+) -> [Kept; PLACES]
     requires { ⌜ Fillable n p rho (now significands) (now exponents) ⌝ }
     ensures { λ r. ⌜ Filled side n p rho (now (significands .entry)) (now (significands .exit)) (now (exponents .entry)) (now (exponents .exit)) r ⌝ }
 {
@@ -86,7 +95,7 @@ pub fn fill_side(
     let q = Kept::from_basis_points(10000 - rho, side);
     let g = weights(p, rho, count, side);
     let zero = Kept::zero();
-    let mut w = [zero; 65];
+    let mut w = [zero; PLACES];
     w[0] = Kept::one();
     let mut conditional = Kept::from_basis_points(p, side);
     let mut joint = conditional;

@@ -2,6 +2,7 @@
 -- Assumes nothing.
 use Prim.Native.Nat.{_-_, _≤_, _<_}
 use mathlib.Core.Path.{_≡_, refl, _∙_}
+use borrow.Author.Needs.{needs}
 use native.Mathlib.Nat.{le-trans}
 use native.Mathlib.Omega.{arith}
 use lib.ListN.{length}
@@ -11,7 +12,7 @@ use Rattle.model.specs.Fraction.{whole, complement}
 use Rattle.steps.specs.Rows.{constant, keptConditional, keptJoint, keptRow}
 use Rattle.steps.specs.Pool.{largestPool}
 use Rattle.rows.specs.Working.{workingPlaces}
-use Rattle.rows.specs.Working.Laws.{AtRow, row-passable, row-weightable, row-next, conditional-operands, sum-operands, joint-operands, at-next}
+use Rattle.rows.specs.Working.Laws.{AtRow, row-passable, row-weightable, row-next, next-operands, product-operand, sum-operand, at-next}
 use Rattle.rows.specs.Store.Laws.{fillable-range, Filling, filling-none, filling-lengths, filling-room, filling-more, filling-all}
 use Rattle.rows.proofs.fill_side.Statement.{statement}
 use Rattle.rows.proofs.fill_side.Tie as tie
@@ -104,15 +105,20 @@ unfolding largestPool
 array-set-from-w-2 c = omega arith
 
 product-requires : tie.Need-product-requires Inv-loop μ-loop
-product-requires c κs = conditional-operands (turn (c .before .before) .loop .inv .0)
+product-requires c κs =
+    let known = next-operands (turn (c .before .before) .loop .inv .0) in
+    search needs
 
 sum-requires : tie.Need-sum-requires Inv-loop μ-loop
-sum-requires c κs = sum-operands (turn (c .before .before .before) .loop .inv .0) (c .product .ensures)
+sum-requires c κs =
+    let at-row = turn (c .before .before .before) .loop .inv .0 in
+    (product-operand at-row (c .product .ensures), next-operands at-row .1 .0)
 
 product-requires-2 : tie.Need-product-requires-2 Inv-loop μ-loop
 product-requires-2 c κs =
     let c0 = c .before .before .before .before in
-    joint-operands (turn c0 .loop .inv .0) (c .before .product .ensures) (c .sum .ensures) (below c0)
+    let at-row = turn c0 .loop .inv .0 in
+    (next-operands at-row .0 .1, sum-operand at-row (c .before .product .ensures) (c .sum .ensures) (below c0))
 
 add-k : tie.Need-add-k Inv-loop μ-loop
 add-k c = omega (arith, small (turn (c .before .before .before .before .before)))

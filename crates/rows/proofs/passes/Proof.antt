@@ -9,32 +9,32 @@ use Rattle.model.specs.Passes.{passed}
 use Rattle.kept.specs.Rounding.{nought}
 use Rattle.steps.specs.Exponents.{is-ρ}
 use Rattle.steps.specs.Pool.{largestPool}
-use Rattle.rows.specs.Working.{workingPlaces, Becomes, passStep}
+use Rattle.rows.specs.Working.{workingPlaces, Becomes, roundedPassStep}
 use Rattle.rows.specs.Working.Laws.{row-operand, Changed, changed-none, changed-more, changed-rest, passEach, pass-more, pass-operands}
 use Rattle.rows.proofs.passes.Statement.{statement}
 use Rattle.rows.proofs.passes.Tie as tie
 
 abbrev Inv-loop2 : tie.InvT-loop2
-Inv-loop2 rho k side w₀ s j₀ j-end w j = (j ≤ j-end) × Changed (passEach side rho) (suc k) j w₀ w
+Inv-loop2 rho k side w₀ s j₀ j-end w j = Changed (passEach side rho) (suc k) j w₀ w × (j ≤ j-end)
 
 abbrev μ-loop2 : tie.MeasureT-loop2
 μ-loop2 rho k side w₀ s j₀ j-end w j = j-end - j
 
 abbrev Inv-loop : tie.InvT-loop
-Inv-loop rho k side w₀ s₀ w s = (s ≤ k) × Becomes (suc k) w₀ w (passed (passStep side rho) (suc k) s)
+Inv-loop rho k side w₀ s₀ w s = Becomes (suc k) w₀ w (passed (roundedPassStep side rho) (suc k) s) × (s ≤ k)
 
 abbrev μ-loop : tie.MeasureT-loop
 μ-loop rho k side w₀ s₀ w s = k - s
 
 loop-holds : tie.Need-loop-holds Inv-loop2 μ-loop2 Inv-loop μ-loop
 unfolding passed
-loop-holds c = (omega arith, record { made = λ f entries. entries })
+loop-holds c = (record { made = λ f entries. entries }, omega arith)
 
 sub-j-end : tie.Need-sub-j-end Inv-loop2 μ-loop2 Inv-loop μ-loop
 sub-j-end c = omega arith
 
 loop2-holds : tie.Need-loop2-holds Inv-loop2 μ-loop2 Inv-loop μ-loop
-loop2-holds c = (omega arith, changed-none)
+loop2-holds c = (changed-none, omega arith)
 
 mul-x : tie.Need-mul-x Inv-loop2 μ-loop2 Inv-loop μ-loop
 unfolding largestPool
@@ -64,7 +64,7 @@ product-requires c κs =
     let ready = pass .before .pre in
     let j = turn .loop2 .j in (
       rw (ready .rho-is) (row-operand (ready .range) is-ρ),
-      pass-operands (pass .loop .s) ready (pass .loop .inv .1) (turn .loop2 .inv .1) (j + 1) (omega arith) (omega arith) .0,
+      pass-operands (pass .loop .s) ready (pass .loop .inv .0) (turn .loop2 .inv .0) (j + 1) (omega arith) (omega arith) .0,
     )
 
 sum-requires : tie.Need-sum-requires Inv-loop2 μ-loop2 Inv-loop μ-loop
@@ -73,7 +73,7 @@ sum-requires c κs =
     let turn = c .before .before .before .before in
     let pass = turn .before .before in
     let j = turn .loop2 .j in
-    let operands = pass-operands (pass .loop .s) (pass .before .pre) (pass .loop .inv .1) (turn .loop2 .inv .1) in
+    let operands = pass-operands (pass .loop .s) (pass .before .pre) (pass .loop .inv .0) (turn .loop2 .inv .0) in
     (operands j (omega arith) (omega arith) .0, rw (c .product .ensures) (operands (j + 1) (omega arith) (omega arith) .1))
 
 mul-w : tie.Need-mul-w Inv-loop2 μ-loop2 Inv-loop μ-loop
@@ -91,12 +91,11 @@ loop2-less : tie.Need-loop2-less Inv-loop2 μ-loop2 Inv-loop μ-loop
 loop2-less c = omega arith
 
 loop2-again : tie.Need-loop2-again Inv-loop2 μ-loop2 Inv-loop μ-loop
-unfolding nought largestPool workingPlaces passEach passStep
+unfolding nought largestPool workingPlaces passEach roundedPassStep
 loop2-again c =
     let turn = c .before .before .before .before .before in
-    let inv = turn .loop2 .inv .1 in
+    let inv = turn .loop2 .inv .0 in
     let j = turn .loop2 .j in (
-      omega arith,
       changed-more inv (omega arith)
           (λ f entries.
           rw (
@@ -106,6 +105,7 @@ loop2-again c =
             changed-rest inv entries (j + 1) (omega arith) (omega arith),
             add-one j,
           )),
+      omega arith,
     )
 
 add-s : tie.Need-add-s Inv-loop2 μ-loop2 Inv-loop μ-loop
@@ -118,12 +118,12 @@ loop-again : tie.Need-loop-again Inv-loop2 μ-loop2 Inv-loop μ-loop
 loop-again c =
     let pass = c .before .before .before in
     let start = pass .before in
-    (omega arith, pass-more (start .args .side) (start .args .rho) (pass .loop .s) (pass .loop .inv .1) (c .before .loop2 .inv .1) (omega arith))
+    (pass-more (start .args .side) (start .args .rho) (pass .loop .s) (pass .loop .inv .0) (c .before .loop2 .inv .0) (omega arith), omega arith)
 
 returns : tie.Need-returns Inv-loop2 μ-loop2 Inv-loop μ-loop
 returns c =
     let all : c .before .loop .s ≡ c .before .before .args .k = omega arith in
-    rw all at (c .before .loop .inv .1)
+    rw all at (c .before .loop .inv .0)
 
 pub passes-spec : {M : Type 1} → statement M
 passes-spec =

@@ -19,18 +19,19 @@ use Rattle.rows.proofs.store.Statement.{statement}
 use Rattle.rows.proofs.store.Tie as tie
 
 abbrev Inv-loop : tie.InvT-loop
-Inv-loop count at significands₀ exponents₀ row j₀ significands exponents j = (j ≤ count) × Stored row j at significands₀ significands exponents₀ exponents
+Inv-loop count at significands₀ exponents₀ row j₀ significands exponents j =
+    Stored row j at significands₀ significands exponents₀ exponents × (j ≤ count)
 
 abbrev μ-loop : tie.MeasureT-loop
 μ-loop count at significands₀ exponents₀ row j₀ significands exponents j = count - j
 
 loop-holds : tie.Need-loop-holds Inv-loop μ-loop
 loop-holds c = (
-  omega arith,
   record {
     significands = paste-zero (c .args .significands .now) (c .args .at) (map (λ x. x .significand) (c .args .t1));
     exponents = paste-zero (c .args .exponents .now) (c .args .at) (map (λ x. x .exponent) (c .args .t1));
   },
+  omega arith,
 )
 
 -- A row has 65 places.
@@ -39,12 +40,13 @@ places c = search needs
 
 -- Neither slice changes its length.
 lengths : (c : tie.At-loop Inv-loop μ-loop)
-    → (length (c .loop .significands) ≡ length (c .before .args .significands .now)) × (length (c .loop .exponents) ≡ length (c .before .args .exponents .now))
+    → (length (c .loop .significands) ≡ length (c .before .args .significands .now))
+    × (length (c .loop .exponents) ≡ length (c .before .args .exponents .now))
 unfolding workingPlaces largestPool
 lengths c =
     let row = c .before .args .t1 in
     let at = c .before .args .at in
-    let inv = c .loop .inv .1 in
+    let inv = c .loop .inv .0 in
     let row-places = places (c .before) in (
       written-length (λ x. x .significand) row at (c .loop .j) _ (inv .significands) (omega arith) (omega arith),
       written-length (λ x. x .exponent) row at (c .loop .j) _ (inv .exponents) (omega arith) (omega arith),
@@ -93,15 +95,15 @@ loop-again c =
     let turn = c .before .before .before in
     let start = turn .before in
     let row = start .args .t1 in
-    let inv = turn .loop .inv .1 in
+    let inv = turn .loop .inv .0 in
     let row-places = places start in (
-      omega arith,
       record {
         significands = written-more (λ x. x .significand) row (start .args .at) (turn .loop .j) _ (inv .significands) (omega arith) (omega arith);
         exponents =
             rw (toZ-ofZ (fits c))
             (written-more (λ x. x .exponent) row (start .args .at) (turn .loop .j) _ (inv .exponents) (omega arith) (omega arith));
       },
+      omega arith,
     )
 
 same-length : tie.Need-same-length Inv-loop μ-loop
@@ -113,7 +115,7 @@ same-length-2 c = lengths (c .before) .1
 returns : tie.Need-returns Inv-loop μ-loop
 returns c =
     let all : c .before .loop .j ≡ c .before .before .args .count = omega arith in
-    rw all at (c .before .loop .inv .1)
+    rw all at (c .before .loop .inv .0)
 
 pub store-spec : {M : Type 1} → statement M
 store-spec =

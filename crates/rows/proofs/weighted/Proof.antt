@@ -13,13 +13,13 @@ use Rattle.rows.proofs.weighted.Statement.{statement}
 use Rattle.rows.proofs.weighted.Tie as tie
 
 abbrev Inv-loop : tie.InvT-loop
-Inv-loop n side weights w₀ j₀ w j = (j ≤ n) × Changed (λ f i. roundedProduct side (f i) (getD weights i nought)) n j w₀ w
+Inv-loop n side weights w₀ j₀ w j = Changed (λ f i. roundedProduct side (f i) (getD weights i nought)) n j w₀ w × (j ≤ n)
 
 abbrev μ-loop : tie.MeasureT-loop
 μ-loop n side weights w₀ j₀ w j = n - j
 
 loop-holds : tie.Need-loop-holds Inv-loop μ-loop
-loop-holds c = (omega arith, changed-none)
+loop-holds c = (changed-none, omega arith)
 
 mul-x : tie.Need-mul-x Inv-loop μ-loop
 unfolding workingPlaces largestPool
@@ -43,7 +43,7 @@ product-requires c κs =
     let turn = c .before .before .before in
     let j = turn .loop .j in
     let l = c .before .before .loop-test .taken in
-    (rw (turn .loop .inv .1 .old j (le-refl j) l) (turn .before .pre .entry j l), turn .before .pre .weight j l)
+    (rw (turn .loop .inv .0 .old j (le-refl j) l) (turn .before .pre .entry j l), turn .before .pre .weight j l)
 
 mul-w : tie.Need-mul-w Inv-loop μ-loop
 unfolding workingPlaces largestPool
@@ -63,14 +63,14 @@ loop-again : tie.Need-loop-again Inv-loop μ-loop
 unfolding nought
 loop-again c =
     let turn = c .before .before .before .before in
-    let inv = turn .loop .inv .1 in
+    let inv = turn .loop .inv .0 in
     let j = turn .loop .j in
-    (omega arith, changed-more inv (omega arith) (λ f entries. rw (c .product .ensures, changed-rest inv entries j (le-refl j) (omega arith))))
+    (changed-more inv (omega arith) (λ f entries. rw (c .product .ensures, changed-rest inv entries j (le-refl j) (omega arith))), omega arith)
 
 returns : tie.Need-returns Inv-loop μ-loop
 returns c =
     let all : c .before .loop .j ≡ c .before .before .args .n = omega arith in
-    changed-all (rw all at (c .before .loop .inv .1))
+    changed-all (rw all at (c .before .loop .inv .0))
 
 pub weighted-spec : {M : Type 1} → statement M
 weighted-spec =

@@ -6,7 +6,7 @@ use mathlib.Core.List.{List, [], _∷_, _++_, map, map-append}
 use native.Mathlib.Decide.{decLe}
 use native.Mathlib.Omega.{arith}
 use native.Mathlib.Numerals.{add-one}
-use lib.ListN.{length, take, drop, getD, set, length-append, length-drop, length-map, List·getD-append, List·getD-map}
+use lib.ListN.{length, take, getD, set, length-append, length-drop, length-map, List·getD-append, List·getD-map}
 use lib.Seq.{paste, paste-suc, length-paste, length-take-le, take-suc, take-append-seam, drop-append-add, drop-drop, getD-at, getD-append-add}
 use lib.IntN.{ℤ, pos}
 use Rattle.model.specs.Number.{triangle}
@@ -43,7 +43,7 @@ module _ {A : Type 0} where
 
   pub overwritten-at : (new old : List A) (i : ℕ) (d : A) → i < length new → getD (overwritten new old) i d ≡ getD new i d
   unfolding overwritten
-  overwritten-at new old i d l = List·getD-append new (drop (length new) old) d i l
+  overwritten-at new old i d l = List·getD-append new _ d i l
 
   pub overwritten-length : (new old : List A) → length new ≤ length old → length (overwritten new old) ≡ length old
   unfolding overwritten
@@ -82,16 +82,16 @@ module _ (side : Side) (p ρ : ℕ) where
   rows-entry : (m : ℕ) {j k : ℕ} → j ≤ k → k < m → getD (rowsBefore side p ρ m) (triangle k + j) nought ≡ keptRow side p ρ k j
   unfolding rowsBefore triangle
   rows-entry zero l h = absurd (omega arith)
-  rows-entry (suc m) {j} {k} l h = elim (decLe m k) [
-    | yes b ↦
-        let last : k ≡ m = omega arith in
-        rw (last, ← rows-length m)
-        (getD-append-add (rowsBefore side p ρ m) (tabulate (suc m) (keptRow side p ρ m)) j nought ∙ getD-tabulate (suc m) (keptRow side p ρ m) j nought (omega arith))
-    | no b ↦
-        let earlier : suc k ≤ m = omega arith in
-        List·getD-append (rowsBefore side p ρ m) (tabulate (suc m) (keptRow side p ρ m)) nought (triangle k + j) (omega (arith, rows-length m, triangle-mono earlier))
-        ∙ rows-entry m l earlier
-  ]
+  rows-entry (suc m) {j} {k} l h =
+      let rows = rowsBefore side p ρ m in
+      elim (decLe m k) [
+        | yes b ↦
+            let last : k ≡ m = omega arith in
+            rw (last, ← rows-length m) (getD-append-add rows _ j nought ∙ getD-tabulate (suc m) (keptRow side p ρ m) j nought (omega arith))
+        | no b ↦
+            let earlier : suc k ≤ m = omega arith in
+            List·getD-append rows _ nought (triangle k + j) (omega (arith, rows-length m, triangle-mono earlier)) ∙ rows-entry m l earlier
+      ]
 
   -- The same for a field of the entries.
   field-length : {A : Type 0} (field : Kept → A) (m : ℕ) → length (map field (rowsBefore side p ρ m)) ≡ triangle m

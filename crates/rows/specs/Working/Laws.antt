@@ -21,7 +21,7 @@ use Rattle.steps.specs.Exponents.Laws.{ranged-operand}
 use Rattle.steps.specs.Pool.{of-rows}
 use Rattle.steps.specs.Pool.Theorems.{exponents}
 use Rattle.steps.specs.Rows.{constant, keptConditional, keptJoint, keptWeight, keptPassStep, keptRow}
-use Rattle.rows.specs.Working.{workingPlaces, Entries, Becomes, InRange, passStep, Passable, Weightable}
+use Rattle.rows.specs.Working.{workingPlaces, Entries, Becomes, InRange, roundedPassStep, Passable, Weightable}
 
 -- Every number of steps 1 to 3 can be an operand.
 pub row-operand : {side : Side} {n p ρ : ℕ} {x : Kept} → InRange n p ρ → RowNumber side n p ρ x → Operand x
@@ -30,7 +30,7 @@ row-operand {side} {n} {p} {ρ} range number =
 
 -- ---- entries that are stored one after the other
 
-pub entries-same : {m : ℕ} {w : List Kept} {f g : ℕ → Kept} → Entries m w f → ((j : ℕ) → j < m → f j ≡ g j) → Entries m w g
+entries-same : {m : ℕ} {w : List Kept} {f g : ℕ → Kept} → Entries m w f → ((j : ℕ) → j < m → f j ≡ g j) → Entries m w g
 entries-same entries same = record { places = entries .places; entry = λ j l. entries .entry j l ∙ same j l }
 
 pub entries-more : {j : ℕ} {w : List Kept} {f : ℕ → Kept} {v : Kept} → Entries j w f → j < workingPlaces → v ≡ f j → Entries (j + 1) (set w j v) f
@@ -75,11 +75,11 @@ module _ {φ : (ℕ → Kept) → ℕ → Kept} {m : ℕ} where
 
 -- One pass, on every entry.
 unfoldable pub passEach : Side → Kept → (ℕ → Kept) → ℕ → Kept
-passEach side rho f i = passStep side rho (f i) (f (suc i))
+passEach side rho f i = roundedPassStep side rho (f i) (f (suc i))
 
 -- The pass that follows s of them.
-pub pass-more : (side : Side) (rho : Kept) (s : ℕ) {k j : ℕ} {row w u : List Kept} → Becomes (suc k) row w (passed (passStep side rho) (suc k) s)
-    → Changed (passEach side rho) (suc k) j w u → j ≡ k - s → Becomes (suc k) row u (passed (passStep side rho) (suc k) (s + 1))
+pub pass-more : (side : Side) (rho : Kept) (s : ℕ) {k j : ℕ} {row w u : List Kept} → Becomes (suc k) row w (passed (roundedPassStep side rho) (suc k) s)
+    → Changed (passEach side rho) (suc k) j w u → j ≡ k - s → Becomes (suc k) row u (passed (roundedPassStep side rho) (suc k) (s + 1))
 unfolding passed pass passEach
 pass-more side rho s {k} becomes changed e = rw (add-one s) (record {
   made = λ f entries.
@@ -96,9 +96,9 @@ pass-more side rho s {k} becomes changed e = rw (add-one s) (record {
 
 -- In a pass, an entry that is not reached yet, and its product with ρ.
 pub pass-operands : {side : Side} {k : ℕ} {rho : Kept} (s : ℕ) {j : ℕ} {row w u : List Kept} → Passable side k rho row
-    → Becomes (suc k) row w (passed (passStep side rho) (suc k) s) → Changed (passEach side rho) (suc k) j w u → (i : ℕ) → j ≤ i → i ≤ k
+    → Becomes (suc k) row w (passed (roundedPassStep side rho) (suc k) s) → Changed (passEach side rho) (suc k) j w u → (i : ℕ) → j ≤ i → i ≤ k
     → Operand (getD u i nought) × Operand (roundedProduct side rho (getD u i nought))
-unfolding keptPassStep passStep
+unfolding keptPassStep roundedPassStep
 pass-operands {k} s ready becomes changed i l h =
     rw (changed-rest changed (becomes .made _ (ready .entries)) i l (omega arith), ready .rho-is) (
       row-operand (ready .range) (is-passed k s i (le-refl k) h),
@@ -130,9 +130,9 @@ module _
     entries = at .entry;
   }
 
-  module _ {v : List Kept} (passes : Becomes (suc k) row v (passed (passStep side rho) (suc k) k)) (l : k < n) where
+  module _ {v : List Kept} (passes : Becomes (suc k) row v (passed (roundedPassStep side rho) (suc k) k)) (l : k < n) where
     after-passes : Entries (suc k) v (passed (keptPassStep side ρ) (suc k) k (keptRow side p ρ k))
-    unfolding keptPassStep passStep
+    unfolding keptPassStep roundedPassStep
     after-passes = rw (at .rho-is) at (passes .made _ (at .entry))
 
     pub row-weightable : Weightable (k + 1) v weights
@@ -152,30 +152,27 @@ module _
         (entries-more (entries-same products (λ j h. rw (at .weight .entry j (omega arith), lt-ltb j (suc k) h))) (omega (arith, at .range .assets))
         (rw (le-ltb (suc k) (suc k) (le-refl (suc k))) (at .joint-is)))
 
-  -- p_(k+2) and m_(k+2).
-  pub conditional-operands : Operand conditional × Operand q
-  conditional-operands = (
-    rw (at .conditional-is) (row-operand (at .range) (is-conditional k (at .within))),
-    rw (at .q-is) (row-operand (at .range) is-q),
+  -- What p_(k+2) and m_(k+2) are made from.
+  pub next-operands : (Operand conditional × Operand joint) × (Operand rho × Operand q)
+  next-operands = (
+    (
+      rw (at .conditional-is) (row-operand (at .range) (is-conditional k (at .within))),
+      rw (at .joint-is) (row-operand (at .range) (is-joint k (at .within))),
+    ),
+    (rw (at .rho-is) (row-operand (at .range) is-ρ), rw (at .q-is) (row-operand (at .range) is-q)),
   )
 
   module _ {x : Kept} (product : x ≡ roundedProduct side conditional q) where
-    pub sum-operands : Operand x × Operand rho
-    sum-operands = (
-      rw (product, at .conditional-is, at .q-is) (row-operand (at .range) (is-conditional-product k (at .within))),
-      rw (at .rho-is) (row-operand (at .range) is-ρ),
-    )
+    pub product-operand : Operand x
+    product-operand = rw (product, at .conditional-is, at .q-is) (row-operand (at .range) (is-conditional-product k (at .within)))
 
     module _ {y : Kept} (sum : y ≡ roundedSum side x rho) (l : k < n) where
       next-conditional : y ≡ keptConditional side p ρ (suc k)
       unfolding keptConditional
       next-conditional = rw (sum, product, at .conditional-is, at .q-is, at .rho-is)
 
-      pub joint-operands : Operand joint × Operand y
-      joint-operands = (
-        rw (at .joint-is) (row-operand (at .range) (is-joint k (at .within))),
-        rw next-conditional (row-operand (at .range) (is-conditional (suc k) l)),
-      )
+      pub sum-operand : Operand y
+      sum-operand = rw next-conditional (row-operand (at .range) (is-conditional (suc k) l))
 
       pub at-next : {z : Kept} {w : List Kept} → z ≡ roundedProduct side joint y → Entries (suc (k + 1)) w (keptRow side p ρ (k + 1))
           → AtRow side n p ρ (k + 1) rho q weights w y z
