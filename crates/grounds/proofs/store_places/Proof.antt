@@ -25,7 +25,7 @@ mul-result c =
 
 returns : tie.Need-returns
 unfolding storePlaces
-returns c = search needs
+returns c = omega arith
 
 pub store-places-spec : {M : Type 1} → statement M
 store-places-spec = tie.close (tie.spec add-result add-result-2 mul-result returns)

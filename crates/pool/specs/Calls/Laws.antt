@@ -1,27 +1,26 @@
 -- What the calls promise, from what the steps give.
 -- Assumes nothing.
-use Prim.Native.Nat.{ℕ, zero, suc, _+_, _≤_, _<_, min}
+use Prim.Native.Nat.{ℕ, zero, suc, _+_, _≤_, _<_}
 use mathlib.Core.Path.{_≡_, refl, sym, ap, _∙_}
 use mathlib.Core.List.{List, []}
 use native.Mathlib.Omega.{arith}
-use native.Mathlib.Numerals.{add-one}
 use native.Mathlib.Nat.{le-refl, add-zero}
 use lib.ListN.{length, getD, take, drop, length-take, length-drop}
 use lib.Seq.{getD-take, getD-drop, ext-getD}
-use Rattle.model.specs.Number.{triangle, sum}
+use Rattle.model.specs.Number.{triangle}
 use Rattle.model.specs.Number.Laws.{triangle-mono, sum-cong}
 use Rattle.model.specs.Chances.Laws.{tranche-wide}
 use Rattle.model.specs.CorrelatedBinomial.{defaults}
 use Rattle.kept.specs.declared.Side.{Side}
 use Rattle.kept.specs.declared.Side.the-variants.{Low, High}
 use Rattle.steps.specs.Rows.{keptRow}
-use Rattle.steps.specs.Column.{printedTail, printedRow}
+use Rattle.steps.specs.Column.{printedRow}
 use Rattle.steps.specs.Loss.{lossAnswer}
 use Rattle.steps.specs.Pool.{largestPool, keptDefaults, keptPoolLoss}
 use Rattle.steps.specs.Pool.Theorems.{column, enclosure, answer}
 use Rattle.rows.specs.Store.{tabulate, overwritten, storedSignificands}
 use Rattle.rows.specs.Store.Laws.{length-tabulate, getD-tabulate, stored-significands-length, stored-significand, overwritten-at}
-use Rattle.grounds.specs.Grounds.{PoolAccepted, TrancheAccepted, RowAccepted}
+use Rattle.grounds.specs.Grounds.{PoolAccepted, TrancheAccepted}
 use Rattle.grounds.specs.Grounds.Laws.{row-accepted}
 use Rattle.pool.specs.Stores.{Store, place, storeLeft}
 use Rattle.pool.specs.Stores.Laws.{place-triangle, row-below, filled-holds}

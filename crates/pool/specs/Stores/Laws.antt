@@ -12,7 +12,7 @@ use Rattle.steps.specs.Rows.{keptRow}
 use Rattle.steps.specs.Exponents.{is-entry}
 use Rattle.steps.specs.Pool.{of-rows}
 use Rattle.steps.specs.Pool.Theorems.{enclosure, exponents}
-use Rattle.rows.specs.Store.{overwritten, storedSignificands, storedExponents}
+use Rattle.rows.specs.Store.{storedSignificands, storedExponents}
 use Rattle.rows.specs.Store.Laws.{stored-significands-length, stored-exponents-length, stored-significand, stored-exponent, overwritten-at}
 use Rattle.grounds.specs.Grounds.{PoolAccepted}
 use Rattle.pool.specs.Stores.{Half, Store, half, numberAt, place, filledHalf, storeLeft, HoldsChances}

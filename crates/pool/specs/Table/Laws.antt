@@ -1,22 +1,17 @@
 -- What an accepted call's inputs give the functions below it.
 -- Assumes nothing.
 use Prim.Native.Nat.{ℕ, suc, _-_, _*_, _≤_, _<_}
-use mathlib.Core.Path.{_≡_, refl}
 use mathlib.Core.List.{List}
-use native.Mathlib.Omega.{arith}
 use native.Mathlib.Nat.{le-refl}
 use lib.Dec.{lit<}
-use Rattle.model.specs.Fraction.{integer, certainty}
 use Rattle.model.specs.Fraction.Laws.{at-most-trans}
-use Rattle.model.specs.Chances.{tail}
-use Rattle.model.specs.Chances.Laws.{tail-at-most-one, loss-at-most-one, tranche-wide}
+use Rattle.model.specs.Chances.Laws.{tail-at-most-one, loss-at-most-one}
 use Rattle.model.specs.CorrelatedBinomial.{defaults}
 use Rattle.model.specs.CorrelatedBinomial.Theorems.{defaults-complete}
 use Rattle.kept.specs.declared.Kept.{Kept}
 use Rattle.kept.specs.declared.Side.{Side}
 use Rattle.kept.specs.declared.Side.the-variants.{Low, High}
 use Rattle.steps.specs.Rows.{keptRow}
-use Rattle.steps.specs.Chances.{keptChance}
 use Rattle.steps.specs.Exponents.{is-entry, is-chance, is-loss, Ranged}
 use Rattle.steps.specs.Loss.Laws.{high-to-two}
 use Rattle.steps.specs.Pool.{keptDefaults, keptPoolTail, keptPoolLoss, poolLoss, PoolNumber, of-rows, of-chances, of-tails, of-losses}
@@ -28,7 +23,6 @@ use Rattle.chances.specs.Chances.{ChancesReady, ChancesMade}
 use Rattle.chances.specs.Tails.{TailsReady}
 use Rattle.chances.specs.Loss.{LossReady}
 use Rattle.pool.specs.declared.Pool.{Pool}
-use Rattle.pool.specs.declared.Tranche.{Tranche}
 use Rattle.pool.specs.Stores.{Store, lengths, half}
 use Rattle.pool.specs.Table.{Ready, Answerable}
 

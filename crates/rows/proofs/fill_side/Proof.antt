@@ -46,12 +46,12 @@ loop-holds c =
       record {
         range = fillable-range fillable;
         within = omega arith;
-        rho-is = c2 .from-basis-points .ensures;
-        q-is = c3 .from-basis-points2 .ensures;
+        rho-is = rw (c2 .from-basis-points .ensures) refl;
+        q-is = rw (c3 .from-basis-points2 .ensures) refl;
         weight = c4 .weights .ensures;
         entry = record { places = refl; entry = λ j h. let none : j ≡ 0 = omega arith in rw none (c5 .one .ensures) };
-        conditional-is = c .from-basis-points3 .ensures;
-        joint-is = c .from-basis-points3 .ensures;
+        conditional-is = rw (c .from-basis-points3 .ensures) refl;
+        joint-is = rw (c .from-basis-points3 .ensures) refl;
       },
       filling-none fillable,
     )

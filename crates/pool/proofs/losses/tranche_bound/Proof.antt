@@ -1,6 +1,5 @@
 -- `tranche_bound` meets its contract.
 -- Assumes nothing.
-use mathlib.Core.Path.{_≡_}
 use Rattle.steps.specs.Pool.{keptPoolLoss}
 use Rattle.pool.specs.Calls.{Wide, lossBound}
 use Rattle.pool.specs.Table.Laws.{chances-ready, chances-made, loss-ready}

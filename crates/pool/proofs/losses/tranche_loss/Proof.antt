@@ -3,7 +3,6 @@
 use mathlib.Core.Path.{_≡_, refl, sym, ap, _∙_}
 use borrow.Author.Needs.{needs}
 use native.Mathlib.Omega.{arith}
-use Rattle.kept.specs.declared.Side.the-variants.{Low, High}
 use Rattle.grounds.specs.Grounds.{LossAccepted}
 use Rattle.grounds.specs.Grounds.Laws.{loss-accepted}
 use Rattle.pool.specs.Stores.{Store, store, lengths}
