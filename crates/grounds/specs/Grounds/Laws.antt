@@ -1,15 +1,16 @@
--- The first ground of two lists, and what the inputs of an accepted call are.
+-- The first ground of two lists, what the inputs of an accepted call are, and when a column is refused as its pool is.
 -- Assumes nothing.
-use Prim.Native.Nat.{ℕ, zero, suc, _+_, _<_}
+use Prim.Native.Nat.{ℕ, zero, suc, _+_, _≤_, _<_}
 use mathlib.Core.Path.{_≡_, refl, sym, _∙_}
 use mathlib.Core.Bool.{Bool, true, false, cond, _&&_, _||_, true≢false}
 use mathlib.Core.List.{List, [], _∷_, _++_}
+use native.Mathlib.Nat.{le-trans}
 use native.Mathlib.Omega.{arith}
-use borrow.Author.Tests.{ltb-false, eqb-false, not-false, ltb-true, eq-eqb, ne-eqb}
-use lib.Dec.{T, eqb, ltb, ltb→lt}
+use borrow.Author.Tests.{ltb-false, eqb-false, not-false, ltb-true, le-ltb, eq-eqb, ne-eqb}
+use lib.Dec.{T, eqb, ltb, ltb→lt, lit≤}
 use Rattle.model.specs.Fraction.{whole}
 use Rattle.model.specs.Number.{triangle}
-use Rattle.model.specs.Number.Laws.{triangle-closed}
+use Rattle.model.specs.Number.Laws.{triangle-closed, triangle-mono}
 use Rattle.steps.specs.Pool.{largestPool}
 use Rattle.grounds.specs.Grounds.{Ground, firstGround, storePlaces, someShorter, assetsGround, probabilityGround, correlationGround}
 use Rattle.grounds.specs.Grounds.{recoveryGround, upperGround, attachmentsGround, storeGround, columnGround, rowGround, poolGrounds, trancheGrounds}
@@ -164,3 +165,39 @@ loss-accepted n p ρ R A B lengths e =
       fill = record { pool = pool-accepted n p ρ (parts .0); store = store-accepted n lengths (rest .1) };
       tranche = tranche-accepted R A B (rest .0);
     }
+
+-- ---- the refusal of a pool
+
+-- Its number is 3 at most.
+pub pool-refusal-at-most : (n p ρ : ℕ) → firstGround (poolGrounds n p ρ) ≤ 3
+unfolding firstGround poolGrounds assetsGround probabilityGround correlationGround
+pool-refusal-at-most n p ρ = one-of (eqb n 0 || ltb largestPool n) (lit≤ tt) (one-of (ltb whole p) (lit≤ tt) (one-of (ltb whole ρ) (lit≤ tt) (lit≤ tt)))
+  where
+    one-of : {m x y : ℕ} (t : Bool) → x ≤ m → y ≤ m → cond t x y ≤ m
+    one-of true a b = a
+    one-of false a b = b
+
+none-shorter : {m m′ : ℕ} (ls : List ℕ) → m ≤ m′ → EachAtLeast m′ ls → someShorter m ls ≡ false
+unfolding someShorter
+none-shorter [] few each = refl
+none-shorter {m} (l ∷ ls) few each = rw (le-ltb l m (le-trans few (each .0))) (none-shorter ls few (each .1))
+
+-- With slices that have room for the largest pool, a column is refused as its pool is: 7 and 8 apply to no pool that 1 to 3 accept.
+pub column-refused-as-pool : (n p ρ : ℕ) (lengths : List ℕ) (units : ℕ) → EachAtLeast (triangle (suc largestPool)) lengths → largestPool < units
+    → firstGround (columnGrounds n p ρ lengths units) ≡ firstGround (poolGrounds n p ρ)
+unfolding firstGround columnGrounds fillGrounds storeGround columnGround
+column-refused-as-pool n p ρ lengths units store column = sym (by-number (firstGround (poolGrounds n p ρ)) refl)
+  where
+    by-number : (r : ℕ) → r ≡ firstGround (poolGrounds n p ρ) → r ≡ firstGround (columnGrounds n p ρ lengths units)
+    by-number zero is =
+        let most = pool-accepted n p ρ (sym is) .assets .most in
+        let places : storePlaces n ≤ triangle (suc largestPool) = rw store-places (triangle-mono (omega arith)) in
+        let enough : n + 1 ≤ units = omega arith in
+        goes-on (fillGrounds n p ρ lengths) (columnGround n units ∷ []) (fill-numbered n p ρ lengths)
+        (goes-on (poolGrounds n p ρ) (storeGround n lengths ∷ []) (pool-numbered n p ρ) is refl (rw (none-shorter lengths places store) refl))
+        refl
+        (rw (le-ltb units (n + 1) enough) refl)
+    by-number (suc r) is =
+        stops (fillGrounds n p ρ lengths) (columnGround n units ∷ []) (fill-numbered n p ρ lengths)
+        (stops (poolGrounds n p ρ) (storeGround n lengths ∷ []) (pool-numbered n p ρ) is (λ e. omega arith))
+        (λ e. omega arith)

@@ -85,11 +85,11 @@ lines-same zero row tail = refl
 lines-same (suc m) row tail = rw (lines-same m (λ k l. row k (omega arith)) (λ k l. tail k (omega arith)), row m (omega arith), tail m (omega arith))
 
 module _ (n : ℕ) (units : List ℕ) (rows tails : ℕ → ℕ) (same : (k : ℕ) → k ≤ n → rowOf units k ≡ rows k)
-    (difference : (k : ℕ) → rows k + tails (suc k) ≡ tails k) (past : tails (suc n) ≡ 0) where
+    (difference : (k : ℕ) → k ≤ n → rowOf units k + tails (suc k) ≡ tails k) (past : tails (suc n) ≡ 0) where
   tail-sum : (left k : ℕ) → k + left ≡ suc n → tailOf n units k ≡ tails k
   tail-sum zero k end = let last : k ≡ suc n = omega arith in between-none n (rowOf units) (omega arith) ∙ sym past ∙ ap tails (sym last)
   tail-sum (suc left) k end =
-      omega (arith, between-first n (rowOf units) {k = k} (omega arith), same k (omega arith), tail-sum left (suc k) (omega arith), difference k)
+      omega (arith, between-first n (rowOf units) {k = k} (omega arith), tail-sum left (suc k) (omega arith), difference k (omega arith))
 
   -- The tails in the text of a column are those whose differences the rows are.
   pub column-text : columnText n units ≡ tableText n rows tails

@@ -1,0 +1,95 @@
+-- `column_reply` meets its contract.
+-- Assumes nothing.
+use mathlib.Core.Path.{_≡_, sym, _∙_}
+use borrow.Author.Needs.{needs}
+use native.Mathlib.Omega.{arith}
+use lib.Dec.{lit≤, lit<}
+use Rattle.model.specs.Number.{triangle}
+use Rattle.steps.specs.Column.{unitsOfCertainty}
+use Rattle.steps.specs.Pool.{largestPool}
+use Rattle.grounds.specs.Grounds.{firstGround, poolGrounds}
+use Rattle.grounds.specs.Grounds.Laws.{pool-accepted, pool-refusal-at-most}
+use Rattle.pool.specs.Stores.{store, lengths}
+use Rattle.reply.specs.Reply.Laws.{carried, refused-as-pool, refused-answer, table-answer}
+use Rattle.reply.proofs.column_reply.Statement.{statement}
+use Rattle.reply.proofs.column_reply.Tie as tie
+
+abbrev start : tie.After-column → tie.Start
+start c = c .before .before .before .before .before .before
+
+pool-refusal : (c : tie.After-column) → c .column .result ≡ firstGround (poolGrounds (start c .args .n) (start c .args .p) (start c .args .rho))
+unfolding triangle largestPool store lengths
+pool-refusal c = refused-as-pool (c .column .ensures) (lit≤ tt, (lit≤ tt, (lit≤ tt, (lit≤ tt, tt)))) (lit< tt)
+
+slice-aggregate-column : tie.Need-slice-aggregate-column
+slice-aggregate-column c = search needs
+
+slice-aggregate-column-2 : tie.Need-slice-aggregate-column-2
+slice-aggregate-column-2 c = search needs
+
+slice-aggregate-column-3 : tie.Need-slice-aggregate-column-3
+slice-aggregate-column-3 c = search needs
+
+slice-aggregate-column-4 : tie.Need-slice-aggregate-column-4
+slice-aggregate-column-4 c = search needs
+
+slice-aggregate-column-5 : tie.Need-slice-aggregate-column-5
+slice-aggregate-column-5 c = search needs
+
+column-requires : tie.Need-column-requires
+column-requires c κs = search needs
+
+slice-aggregate-write-refused : tie.Need-slice-aggregate-write-refused
+slice-aggregate-write-refused c = search needs
+
+write-refused-requires : tie.Need-write-refused-requires
+write-refused-requires c κs =
+    let printed = c .before .before .before .before .before .before .before in
+    (omega (arith, pool-refusal printed, pool-refusal-at-most (start printed .args .n) (start printed .args .p) (start printed .args .rho)), lit≤ tt)
+
+returns : tie.Need-returns
+returns c =
+    let branch = c .before .before .before in
+    carried (c .before .write-refused .ensures) (refused-answer (pool-refusal (branch .before .before .before .before .before .before)) (branch .if1 .taken))
+
+slice-aggregate-write-table : tie.Need-slice-aggregate-write-table
+slice-aggregate-write-table c = search needs
+
+slice-aggregate-write-table-2 : tie.Need-slice-aggregate-write-table-2
+slice-aggregate-write-table-2 c = search needs
+
+-- No ground applies.
+none : (c : tie.Else1) → let args = start (c .before .before .before .before .before .before) .args in firstGround (poolGrounds (args .n) (args .p) (args .rho)) ≡ 0
+none c = sym (pool-refusal (c .before .before .before .before .before .before)) ∙ c .if1 .left
+
+write-table-requires : tie.Need-write-table-requires
+unfolding largestPool unitsOfCertainty
+write-table-requires c κs =
+    let branch = c .before .before in
+    let printed = branch .before .before .before .before .before .before in
+    let most = pool-accepted _ _ _ (none branch) .assets .most in
+    (most, (omega (arith, most, printed .column .kept .1 .1 .1 .1 .1 .0), (printed .column .ensures .holds-column (branch .if1 .left) .total, lit≤ tt)))
+
+returns-2 : tie.Need-returns-2
+returns-2 c =
+    let branch = c .before .before .before .before in
+    let printed = branch .before .before .before .before .before .before in
+    carried (c .before .write-table .ensures) (table-answer (none branch) (printed .column .ensures .holds-column (branch .if1 .left)))
+
+pub column-reply-spec : {M : Type 1} → statement M
+column-reply-spec =
+    tie.close
+    (tie.spec
+    slice-aggregate-column
+    slice-aggregate-column-2
+    slice-aggregate-column-3
+    slice-aggregate-column-4
+    slice-aggregate-column-5
+    column-requires
+    slice-aggregate-write-refused
+    write-refused-requires
+    returns
+    slice-aggregate-write-table
+    slice-aggregate-write-table-2
+    write-table-requires
+    returns-2)

@@ -1,0 +1,55 @@
+// The answer of the program `column` to its input, whole.
+use pool::Pool;
+use text::line::Line;
+ghost use Rattle.reply.specs.Reply.{Carries, AnswersPool, AnswersInput};
+
+// A text of the first `length` bytes.
+pub struct Reply {
+    pub text: [u8; 1125],
+    pub length: usize,
+}
+
+// The answer to a line: the table of the pool's column, or the number of the refusal.
+fn column_reply(n: u32, p: u32, rho: u32) -> Reply
+    ensures { λ r. ⌜ Carries (AnswersPool n p rho) r ⌝ }
+{
+    let mut low_significands = [0u32; 2145];
+    let mut high_significands = [0u32; 2145];
+    let mut low_exponents = [0i32; 2145];
+    let mut high_exponents = [0i32; 2145];
+    let mut units = [0u32; 65];
+    let refusal = pool::column(
+        Pool {
+            assets: n,
+            probability: p,
+            correlation: rho,
+            recovery: 0,
+        },
+        &mut low_significands,
+        &mut high_significands,
+        &mut low_exponents,
+        &mut high_exponents,
+        &mut units,
+    );
+    let mut text = [0u8; 1125];
+    if refusal != 0 {
+        let length = text::table::write_refused(refusal, &mut text);
+        return Reply { text, length };
+    }
+    let length = text::table::write_table(n, &units, &mut text);
+    Reply { text, length }
+}
+
+// Any bytes may be given.
+pub fn reply_to(input: &[u8]) -> Reply
+    ensures { λ r. ⌜ Carries (AnswersInput (now (input .entry))) r ⌝ }
+{
+    match text::line::read_line(input) {
+        Line::Inputs(n, p, rho) => column_reply(n, p, rho),
+        Line::Refused => {
+            let mut text = [0u8; 1125];
+            let length = text::table::write_refused_line(&mut text);
+            Reply { text, length }
+        }
+    }
+}
