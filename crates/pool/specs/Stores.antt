@@ -52,12 +52,12 @@ module _ (n p ρ : ℕ) where
   }
 
   -- A store after a call that fills it: filled where the refusal is 0, untouched otherwise. Untouched slices have the content that they had.
-  unfoldable pub storeLeft : (refusal : ℕ) → Store → Store
-  storeLeft zero s = record { low = filledHalf Low (s .low); high = filledHalf High (s .high) }
-  storeLeft (suc r) s = s
+  unfoldable pub storeAfter : (refusal : ℕ) → Store → Store
+  storeAfter zero s = record { low = filledHalf Low (s .low); high = filledHalf High (s .high) }
+  storeAfter (suc r) s = s
 
-  -- What a filled store holds, for every entry j of every row k up to n: the numbers that the steps make on either side; round P(j,k), at most one part in
-  -- 100,000 apart; with exponents from −80,000 to 100.
+  -- What a filled store holds, for every entry j of every row k up to n: the numbers that the steps make on either side, which enclose P(j,k) and are at most
+  -- one part in 100,000 apart, with exponents from −80,000 to 100.
   pub record HoldsChances (s : Store) : Type 0 where
     pub made : (side : Side) (j k : ℕ) → j ≤ k → k ≤ n → numberAt (half side s) (place k j) ≡ keptRow side p ρ k j
     pub enclosed : (j k : ℕ) → j ≤ k → k ≤ n → Enclosed 100000 (numberAt (s .low) (place k j)) (numberAt (s .high) (place k j)) (probability p ρ j k)

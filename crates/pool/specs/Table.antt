@@ -13,7 +13,7 @@ use Rattle.rows.specs.Working.{Entries}
 use Rattle.grounds.specs.Grounds.{PoolAccepted, TrancheAccepted, FillAccepted}
 use Rattle.pool.specs.declared.Pool.{Pool}
 use Rattle.pool.specs.declared.Tranche.{Tranche}
-use Rattle.pool.specs.Stores.{Store, lengths, storeLeft}
+use Rattle.pool.specs.Stores.{Store, lengths, storeAfter}
 pub mod Laws
 
 -- The inputs of a fill that no ground refuses.
@@ -22,7 +22,7 @@ pub record Ready (pool : Pool) (s : Store) : Type 0 where
 
 -- The store is filled, and row n of either side is at hand.
 pub record FilledBoth (pool : Pool) (before after : Store) (low high : List Kept) : Type 0 where
-  pub store-is : after ≡ storeLeft (pool .assets) (pool .probability) (pool .correlation) 0 before
+  pub store-is : after ≡ storeAfter (pool .assets) (pool .probability) (pool .correlation) 0 before
   pub low-row : Entries (suc (pool .assets)) low (keptRow Low (pool .probability) (pool .correlation) (pool .assets))
   pub high-row : Entries (suc (pool .assets)) high (keptRow High (pool .probability) (pool .correlation) (pool .assets))
 

@@ -17,16 +17,16 @@ use Rattle.steps.specs.Rows.{keptRow}
 use Rattle.steps.specs.Column.{printedRow}
 use Rattle.steps.specs.Loss.{lossAnswer}
 use Rattle.steps.specs.Pool.{largestPool, keptDefaults, keptPoolLoss}
-use Rattle.steps.specs.Pool.Theorems.{column, enclosure, answer}
+use Rattle.steps.specs.Pool.Theorems.{column, enclosure, exponents, answer}
 use Rattle.rows.specs.Store.{tabulate, overwritten, storedSignificands}
 use Rattle.rows.specs.Store.Laws.{length-tabulate, getD-tabulate, stored-significands-length, stored-significand, overwritten-at}
 use Rattle.grounds.specs.Grounds.{PoolAccepted, TrancheAccepted}
 use Rattle.grounds.specs.Grounds.Laws.{row-accepted}
-use Rattle.pool.specs.Stores.{Store, place, storeLeft}
+use Rattle.pool.specs.Stores.{Store, place, storeAfter}
 use Rattle.pool.specs.Stores.Laws.{place-triangle, row-below, filled-holds}
 use Rattle.pool.specs.declared.Pool.{Pool}
 use Rattle.pool.specs.declared.Tranche.{Tranche}
-use Rattle.pool.specs.Calls.{LeavesStore, rowRefusal, partLeft, HandsRow, unitsLeft, HoldsColumn, Wide, lossBound, exactLoss, HoldsLoss}
+use Rattle.pool.specs.Calls.{LeavesStore, rowRefusal, partAfter, HandsRow, unitsAfter, HoldsColumn, Wide, lossBound, exactLoss, HoldsLoss}
 use Rattle.pool.specs.Answers.{LossReply, answered}
 
 -- ---- row
@@ -39,19 +39,19 @@ row-within n k significands accepts =
     (omega (arith, accepted .row, accepted .assets .most), rw (place-triangle k 0) (omega (arith, triangle-mono (accepted .row), accepted .store)))
 
 module _ (n k : ℕ) (significands : List ℕ) {refusal : ℕ} (is : refusal ≡ rowRefusal n k significands) where
-  pub part-refused : (refusal ≡ 0 → ⊥) → [] ≡ partLeft (rowRefusal n k significands) k significands
-  unfolding partLeft
+  pub part-refused : (refusal ≡ 0 → ⊥) → [] ≡ partAfter (rowRefusal n k significands) k significands
+  unfolding partAfter
   part-refused some = by-number (rowRefusal n k significands) (λ none. some (is ∙ none))
     where
-      by-number : (r : ℕ) → (r ≡ 0 → ⊥) → [] ≡ partLeft r k significands
+      by-number : (r : ℕ) → (r ≡ 0 → ⊥) → [] ≡ partAfter r k significands
       by-number zero not = absurd (not refl)
       by-number (suc r) not = refl
 
-  pub part-accepted : refusal ≡ 0 → take (k + 1) (drop (place k 0) significands) ≡ partLeft (rowRefusal n k significands) k significands
-  unfolding partLeft
+  pub part-accepted : refusal ≡ 0 → take (k + 1) (drop (place k 0) significands) ≡ partAfter (rowRefusal n k significands) k significands
+  unfolding partAfter
   part-accepted none = rw (sym is ∙ none) refl
 
-module _ (n k : ℕ) (significands : List ℕ) {part : List ℕ} (is : part ≡ partLeft (rowRefusal n k significands) k significands) where
+module _ (n k : ℕ) (significands : List ℕ) {part : List ℕ} (is : part ≡ partAfter (rowRefusal n k significands) k significands) where
   module _ (accepts : rowRefusal n k significands ≡ 0) where
     part-is-row : part ≡ take (k + 1) (drop (place k 0) significands)
     part-is-row = is ∙ sym (part-accepted n k significands refl accepts)
@@ -83,7 +83,7 @@ module _ (n k : ℕ) (significands : List ℕ) {part : List ℕ} (is : part ≡ 
         ) refl)
 
   part-empty : (rowRefusal n k significands ≡ 0 → ⊥) → length part ≡ 0
-  unfolding partLeft
+  unfolding partAfter
   part-empty not = by-number (rowRefusal n k significands) refl
     where
       by-number : (r : ℕ) → rowRefusal n k significands ≡ r → length part ≡ 0
@@ -98,24 +98,35 @@ module _ (n k : ℕ) (significands : List ℕ) {part : List ℕ} (is : part ≡ 
 
 module _ {pool : Pool} {before after : Store} where
   pub store-untouched : (refusal : ℕ) → (refusal ≡ 0 → ⊥) → after ≡ before → LeavesStore pool before after refusal
-  unfolding storeLeft
+  unfolding storeAfter
   store-untouched zero some same = absurd (some refl)
-  store-untouched (suc r) some same = record { store-is = same; holds = λ none. absurd (some none) }
+  store-untouched (suc r) some same = record { store-is = same; holds = λ none. absurd (some none); steps-hold = λ none. absurd (some none) }
 
   pub store-filled : PoolAccepted (pool .assets) (pool .probability) (pool .correlation)
-      → after ≡ storeLeft (pool .assets) (pool .probability) (pool .correlation) 0 before → LeavesStore pool before after 0
-  store-filled accepted is = record { store-is = is; holds = λ none. rw is (filled-holds (pool .assets) (pool .probability) (pool .correlation) before accepted) }
+      → after ≡ storeAfter (pool .assets) (pool .probability) (pool .correlation) 0 before → LeavesStore pool before after 0
+  store-filled accepted is =
+      let n = pool .assets in
+      let p = pool .probability in
+      let ρ = pool .correlation in
+      record {
+        store-is = is;
+        holds = λ _. rw is (filled-holds n p ρ before accepted);
+        steps-hold = λ _. record {
+          enclosed = enclosure n p ρ (accepted .probability) (accepted .correlation) (accepted .assets .most);
+          ranged = exponents n p ρ (accepted .probability) (accepted .correlation) (accepted .assets .most);
+        };
+      }
 
 -- ---- column
 
-pub units-untouched : (n p ρ refusal : ℕ) {units : List ℕ} → (refusal ≡ 0 → ⊥) → units ≡ unitsLeft n p ρ refusal units
-unfolding unitsLeft
+pub units-untouched : (n p ρ refusal : ℕ) {units : List ℕ} → (refusal ≡ 0 → ⊥) → units ≡ unitsAfter n p ρ refusal units
+unfolding unitsAfter
 units-untouched n p ρ zero some = absurd (some refl)
 units-untouched n p ρ (suc r) some = refl
 
-module _ (n p ρ : ℕ) (accepted : PoolAccepted n p ρ) (units : List ℕ) {units′ : List ℕ} (is : units′ ≡ unitsLeft n p ρ 0 units) where
+module _ (n p ρ : ℕ) (accepted : PoolAccepted n p ρ) (units : List ℕ) {units′ : List ℕ} (is : units′ ≡ unitsAfter n p ρ 0 units) where
   row-printed : {k : ℕ} → k ≤ n → getD units′ k 0 ≡ printedRow n (keptDefaults Low n p ρ) k
-  unfolding unitsLeft
+  unfolding unitsAfter
   row-printed {k} l =
       let rows : List ℕ = tabulate (suc n) (printedRow n (keptDefaults Low n p ρ)) in
       let low : k < suc n = omega arith in
@@ -126,14 +137,11 @@ module _ (n p ρ : ℕ) (accepted : PoolAccepted n p ρ) (units : List ℕ) {uni
   unfolding defaults
   column-holds =
       let prints = column n p ρ (accepted .probability) (accepted .correlation) (accepted .assets .most) in
-      let bounds = enclosure n p ρ (accepted .probability) (accepted .correlation) (accepted .assets .most) in
       record {
         total = sum-cong (suc n) (λ k l. row-printed (omega arith)) ∙ prints .total;
         difference = λ k l. rw (row-printed l) (prints .difference k);
         last = row-printed (le-refl n) ∙ prints .last;
         near = λ k l. rw (row-printed l) (prints .near k l);
-        chances = λ j l. bounds .chances l;
-        tails = λ k _. bounds .tails k;
       }
 
 -- ---- loss

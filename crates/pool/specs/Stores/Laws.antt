@@ -15,7 +15,7 @@ use Rattle.steps.specs.Pool.Theorems.{enclosure, exponents}
 use Rattle.rows.specs.Store.{storedSignificands, storedExponents}
 use Rattle.rows.specs.Store.Laws.{stored-significands-length, stored-exponents-length, stored-significand, stored-exponent, overwritten-at}
 use Rattle.grounds.specs.Grounds.{PoolAccepted}
-use Rattle.pool.specs.Stores.{Half, Store, half, numberAt, place, filledHalf, storeLeft, HoldsChances}
+use Rattle.pool.specs.Stores.{Half, Store, half, numberAt, place, filledHalf, storeAfter, HoldsChances}
 
 pub place-triangle : (k j : ℕ) → place k j ≡ triangle k + j
 unfolding place
@@ -39,12 +39,12 @@ module _ (n p ρ : ℕ) where
         stored-exponent side p ρ n l m,
       ) refl
 
-  side-filled : (side : Side) (s : Store) {j k : ℕ} → j ≤ k → k ≤ n → numberAt (half side (storeLeft n p ρ 0 s)) (place k j) ≡ keptRow side p ρ k j
-  unfolding half storeLeft
+  side-filled : (side : Side) (s : Store) {j k : ℕ} → j ≤ k → k ≤ n → numberAt (half side (storeAfter n p ρ 0 s)) (place k j) ≡ keptRow side p ρ k j
+  unfolding half storeAfter
   side-filled Low s l m = number-filled Low (s .low) l m
   side-filled High s l m = number-filled High (s .high) l m
 
-  pub filled-holds : (s : Store) → PoolAccepted n p ρ → HoldsChances n p ρ (storeLeft n p ρ 0 s)
+  pub filled-holds : (s : Store) → PoolAccepted n p ρ → HoldsChances n p ρ (storeAfter n p ρ 0 s)
   unfolding half
   filled-holds s accepted = record {
     made = λ side j k l m. side-filled side s l m;

@@ -14,6 +14,10 @@ use Rattle.pool.proofs.filling.fill.Tie as tie
 some : (c : tie.Then1) → c .before .fill-refusal .result ≡ 0 → ⊥
 some c none = c .if1 .taken (omega arith)
 
+-- None does.
+none : (c : tie.Else1) → c .before .fill-refusal .result ≡ 0
+none c = omega arith
+
 fill-refusal-requires : tie.Need-fill-refusal-requires
 fill-refusal-requires c κs = search needs
 
@@ -24,8 +28,8 @@ returns c = record { refusal-is = c .before .fill-refusal .ensures; leaves = sto
 fill-both-requires : tie.Need-fill-both-requires
 unfolding lengths store
 fill-both-requires c κs =
-    let none = c .before .before .before .before in
-    record { accepted = fill-accepted _ _ _ _ (sym (none .before .fill-refusal .ensures) ∙ none .if1 .left) }
+    let else1 = c .before .before .before .before in
+    record { accepted = fill-accepted _ _ _ _ (sym (else1 .before .fill-refusal .ensures) ∙ none else1) }
 
 same-length : tie.Need-same-length
 same-length c = search needs
@@ -43,8 +47,8 @@ returns-2 : tie.Need-returns-2
 unfolding fillRefusal lengths store
 returns-2 c =
     let filled = c .before .before .before .before .before .before in
-    let none = filled .before .before .before .before .before in
-    let refusal = sym (none .if1 .left) ∙ none .before .fill-refusal .ensures in
+    let else1 = filled .before .before .before .before .before in
+    let refusal = sym (none else1) ∙ else1 .before .fill-refusal .ensures in
     record { refusal-is = refusal; leaves = store-filled (fill-accepted _ _ _ _ (sym refusal) .pool) (filled .fill-both .ensures .store-is) }
 
 pub fill-spec : {M : Type 1} → statement M

@@ -3,7 +3,7 @@
 use mathlib.Core.Path.{refl}
 use borrow.Author.Needs.{needs}
 use Rattle.kept.specs.declared.Side.the-variants.{Low, High}
-use Rattle.pool.specs.Stores.{store, half, filledHalf, storeLeft}
+use Rattle.pool.specs.Stores.{store, half, filledHalf, storeAfter}
 use Rattle.pool.specs.Table.Laws.{fillable}
 use Rattle.pool.proofs.filling.fill_both.Statement.{statement}
 use Rattle.pool.proofs.filling.fill_both.Tie as tie
@@ -29,7 +29,7 @@ same-length-4 : tie.Need-same-length-4
 same-length-4 c = search needs
 
 returns : tie.Need-returns
-unfolding store storeLeft filledHalf
+unfolding store storeAfter filledHalf
 returns c =
     let low = c .before .before .before .before .before .before .before .before .before .fill-side .ensures in
     let high = c .before .before .before .fill-side2 .ensures in

@@ -25,10 +25,13 @@ some : (c : tie.Then1) → lossRefusal (c .before .before .before .before .args 
 unfolding lossRefusal lengths store
 some c none = taken c (c .before .loss-refusal .ensures ∙ none)
 
+left : (c : tie.Else1) → c .before .loss-refusal .result ≡ 0
+left c = omega arith
+
 -- None does.
 none : (c : tie.Else1) → lossRefusal (c .before .before .before .before .args .pool) (c .before .before .before .before .args .tranche) (entry (c .before .before .before .before)) ≡ 0
 unfolding lossRefusal lengths store
-none c = sym (c .before .loss-refusal .ensures) ∙ c .if1 .left
+none c = sym (c .before .loss-refusal .ensures) ∙ left c
 
 abbrev Accepted : tie.Start → Type 0
 Accepted c =

@@ -8,7 +8,7 @@ use Rattle.kept.specs.declared.Side.the-variants.{Low}
 use Rattle.grounds.specs.Grounds.{ColumnAccepted}
 use Rattle.grounds.specs.Grounds.Laws.{column-accepted}
 use Rattle.pool.specs.Stores.{Store, store, lengths}
-use Rattle.pool.specs.Calls.{columnRefusal, unitsLeft}
+use Rattle.pool.specs.Calls.{columnRefusal, unitsAfter}
 use Rattle.pool.specs.Calls.Laws.{store-untouched, store-filled, units-untouched, column-holds}
 use Rattle.pool.specs.Table.Laws.{chances-ready, chances-made, tails-ready}
 use Rattle.pool.proofs.printing.column.Statement.{statement}
@@ -22,10 +22,13 @@ entry c = store (c .args .low-significands .now) (c .args .high-significands .no
 some : (c : tie.Then1) → c .before .column-refusal .result ≡ 0 → ⊥
 some c none = c .if1 .taken (omega arith)
 
+left : (c : tie.Else1) → c .before .column-refusal .result ≡ 0
+left c = omega arith
+
 -- None does.
 none : (c : tie.Else1) → columnRefusal (c .before .before .before .before .before .args .pool) (entry (c .before .before .before .before .before)) (c .before .before .before .before .before .args .units .now) ≡ 0
 unfolding columnRefusal lengths store
-none c = sym (c .before .column-refusal .ensures) ∙ c .if1 .left
+none c = sym (c .before .column-refusal .ensures) ∙ left c
 
 abbrev Accepted : tie.Start → Type 0
 Accepted c =
@@ -80,7 +83,7 @@ same-length-5 : tie.Need-same-length-5
 same-length-5 c = search needs
 
 returns-2 : tie.Need-returns-2
-unfolding unitsLeft
+unfolding unitsAfter
 returns-2 c =
     let given = c .before .before .before .before in
     let filled = given .before .before .before .before .before .before .before .before in
