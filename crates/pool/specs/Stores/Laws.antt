@@ -6,9 +6,12 @@ use native.Mathlib.Omega.{arith}
 use lib.IntN.{pos}
 use Rattle.model.specs.Number.{triangle}
 use Rattle.model.specs.Number.Laws.{triangle-closed, triangle-mono}
+use Rattle.model.specs.Fraction.{Fraction}
+use Rattle.kept.specs.declared.Kept.{Kept}
 use Rattle.kept.specs.declared.Side.{Side}
 use Rattle.kept.specs.declared.Side.the-variants.{Low, High}
 use Rattle.steps.specs.Rows.{keptRow}
+use Rattle.steps.specs.Enclosure.{Enclosed}
 use Rattle.steps.specs.Exponents.{is-entry}
 use Rattle.steps.specs.Pool.{of-rows}
 use Rattle.steps.specs.Pool.Theorems.{enclosure, exponents}
@@ -25,6 +28,9 @@ place-triangle k j = omega (arith, triangle-closed k)
 pub row-below : {j k n : ℕ} → j ≤ k → k ≤ n → triangle k + j < triangle (suc n)
 unfolding triangle
 row-below l m = omega (arith, triangle-mono m)
+
+enclosed-same : {g : ℕ} {low high low′ high′ : Kept} {v : Fraction} → low ≡ low′ → high ≡ high′ → Enclosed g low′ high′ v → Enclosed g low high v
+enclosed-same low-is high-is enclosed = rw (low-is, high-is) enclosed
 
 module _ (n p ρ : ℕ) where
   number-filled : (side : Side) (h : Half) {j k : ℕ} → j ≤ k → k ≤ n → numberAt (filledHalf n p ρ side h) (place k j) ≡ keptRow side p ρ k j
@@ -49,7 +55,7 @@ module _ (n p ρ : ℕ) where
   filled-holds s accepted = record {
     made = λ side j k l m. side-filled side s l m;
     enclosed = λ j k l m.
-        rw (side-filled Low s l m, side-filled High s l m)
+        enclosed-same (side-filled Low s l m) (side-filled High s l m)
         (enclosure n p ρ (accepted .probability) (accepted .correlation) (accepted .assets .most) .entries l m);
     ranged = λ side j k l m.
         rw (side-filled side s l m)

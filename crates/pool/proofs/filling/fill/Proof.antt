@@ -12,7 +12,7 @@ use Rattle.pool.proofs.filling.fill.Tie as tie
 
 -- Some ground applies.
 some : (c : tie.Then1) → c .before .fill-refusal .result ≡ 0 → ⊥
-some c none = c .if1 .taken (omega arith)
+some c none = omega arith
 
 -- None does.
 none : (c : tie.Else1) → c .before .fill-refusal .result ≡ 0

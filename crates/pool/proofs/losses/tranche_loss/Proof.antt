@@ -18,7 +18,7 @@ abbrev entry : tie.Start → Store
 entry c = store (c .args .low-significands .now) (c .args .high-significands .now) (c .args .low-exponents .now) (c .args .high-exponents .now)
 
 taken : (c : tie.Then1) → c .before .loss-refusal .result ≡ 0 → ⊥
-taken c none = c .if1 .taken (omega arith)
+taken c none = omega arith
 
 -- Some ground applies.
 some : (c : tie.Then1) → lossRefusal (c .before .before .before .before .args .pool) (c .before .before .before .before .args .tranche) (entry (c .before .before .before .before)) ≡ 0 → ⊥

@@ -20,7 +20,7 @@ entry c = store (c .args .low-significands .now) (c .args .high-significands .no
 
 -- Some ground applies.
 some : (c : tie.Then1) → c .before .column-refusal .result ≡ 0 → ⊥
-some c none = c .if1 .taken (omega arith)
+some c none = omega arith
 
 left : (c : tie.Else1) → c .before .column-refusal .result ≡ 0
 left c = omega arith
