@@ -2,10 +2,11 @@
 
     python3 tools/pool_cases.py > crates/pool_cases/stdout
 """
-from pool_runs import column, fill, loss_over, row, tranche_loss
+from pool_runs import column, column_over, fill, filled_row, loss_over, row, tranche_loss
 
 LARGEST = 2**32 - 1
 STORES = [(1, 3), (3, 10), (64, 2145)]
+OTHERS = [(10, 500, 250), (2, 500, 250), (64, 10000, 10000)]
 
 
 def lengths_of(exact):
@@ -43,6 +44,9 @@ def rows():
         (64, LARGEST, 2145),
     ]:
         row(*case)
+    for k in (0, 2, 3, 4):
+        filled_row(3, 1000, 3000, k)
+    filled_row(64, 1000, 3000, 64)
 
 
 def columns():
@@ -62,6 +66,9 @@ def columns():
         column(n, 1000, 3000, longer(exact), n + 6)
     for pool in [(65, 1000, 3000), (3, 10001, 3000), (3, 1000, 10001)]:
         column(*pool, [0] * 4, 0)
+    for other in OTHERS:
+        column_over(other, 3, 1000, 3000)
+    column_over(OTHERS[0], 65, 1000, 3000)
 
 
 def losses():
@@ -83,9 +90,9 @@ def losses():
         for lengths in lengths_of(exact) + [longer(exact)]:
             tranche_loss(n, 1000, 3000, 4000, 1000, 3000, lengths)
         tranche_loss(n, 1000, 3000, 4000, 3000, 3000, [exact - 1] * 4)
-    for other in [(10, 500, 250), (2, 500, 250), (64, 10000, 10000)]:
+    for other in OTHERS:
         loss_over(other, 3, 1000, 3000, 4000, 1000, 3000)
-    loss_over((10, 500, 250), 3, 1000, 3000, 4000, 3000, 3000)
+    loss_over(OTHERS[0], 3, 1000, 3000, 4000, 3000, 3000)
 
 
 fills()

@@ -17,10 +17,9 @@ def made(n, p, rho):
     return [steps(side, n, p, rho) for side in (0, 1)]
 
 
-def slice_words(numbers, mark, length):
-    """How many places of a marked array have changed, and its checksum: it starts with these numbers."""
-    held = numbers + [mark] * (length - len(numbers))
-    return sum(n != mark for n in held), checksum(held, signed=mark == EXPONENT_MARK)
+def array_word(numbers, mark, length):
+    """The checksum of an array that starts with these numbers, before the marks."""
+    return checksum(numbers + [mark] * (length - len(numbers)), signed=mark == EXPONENT_MARK)
 
 
 def places(filled, side, part):
@@ -29,12 +28,12 @@ def places(filled, side, part):
 
 
 def store_words(filled, before=()):
-    """The same of four lent slices: what was filled stands before what they held before, and that before the marks."""
-    words = ["changed"]
+    """The checksums of the four arrays: what was filled stands before what they held before, and that before the marks."""
+    words = ["slices"]
     for part, mark in enumerate((MARK, EXPONENT_MARK)):
         for side in (0, 1):
             new, old = places(filled, side, part), places(before, side, part)
-            words.extend(slice_words(new + old[len(new):], mark, PLACES))
+            words.append(array_word(new + old[len(new):], mark, PLACES))
     return words
 
 
@@ -52,12 +51,26 @@ def row(n, k, length):
     line("row", n, k, "length", length, "refusal", refusal, "part", *part)
 
 
-def column(n, p, rho, lengths=AMPLE, units=ROWS):
+def filled_row(n, p, rho, k):
+    """Row k of the low significands of a filled store."""
+    part = [] if row_refusal(n, k, PLACES) else [x[0] for x in made(n, p, rho)[0][0][k]]
+    line("filled", n, p, rho, "row", k, "part", len(part), *part)
+
+
+def column_words(n, p, rho, lengths, units, before=()):
     refusal = column_refusal(n, p, rho, lengths, units)
     filled = [] if refusal else made(n, p, rho)
     rows = [] if refusal else printed_rows(filled[0][1])
-    words = ["refusal", refusal, *rows, "rows", *slice_words(rows, MARK, ROWS)]
-    line("column", n, p, rho, "lengths", *lengths, units, *words, *store_words(filled))
+    return ["refusal", refusal, *rows, "rows", array_word(rows, MARK, ROWS), *store_words(filled, before)]
+
+
+def column(n, p, rho, lengths=AMPLE, units=ROWS):
+    line("column", n, p, rho, "lengths", *lengths, units, *column_words(n, p, rho, lengths, units))
+
+
+def column_over(other, n, p, rho):
+    """The column on slices that hold another pool's store."""
+    line("over", *other, "column", n, p, rho, *column_words(n, p, rho, AMPLE, ROWS, made(*other)))
 
 
 def answer_words(n, p, rho, recovery, lower, upper, lengths, before=()):

@@ -8,33 +8,36 @@ from vectors import SEED, following
 
 
 def basis_points(word):
-    kind, rest = word % 8, word >> 8
-    if kind < 3:
-        return (0, 1, WHOLE)[kind]
-    if kind == 3:
-        return rest % 10100
-    return rest % 400 if kind < 6 else rest % 10001
+    kind, rest = word % 16, word >> 8
+    if kind < 7:
+        return (0, 0, 1, 1, WHOLE, WHOLE, WHOLE + 1)[kind]
+    if kind == 7:
+        return WHOLE + 1 + rest % 4000000000
+    return rest % 400 if kind < 12 else rest % 10001
 
 
 def assets(word):
     kind, rest = word % 16, word >> 8
-    if kind == 0:
-        return rest % 66
-    return 40 + rest % 25 if kind < 3 else 1 + rest % 20
+    if kind < 2:
+        return (0, 65)[kind]
+    if kind < 6:
+        return 60 + rest % 5
+    return 1 + rest % (64 if kind < 8 else 20)
 
 
 def random_pool(word):
-    second = following(word)
+    n, second = assets(word), following(word)
     third = following(second)
-    return assets(word), basis_points(second), basis_points(third), basis_points(following(third))
+    p, rho = (1, 0) if n > 55 and second % 2 == 0 else (basis_points(second), basis_points(third))
+    return n, p, rho, basis_points(following(third))
 
 
 def random_tranche(word, recovery):
-    if word % 4 == 0:
-        largest = WHOLE - recovery % WHOLE
+    largest = WHOLE - recovery
+    if word % 2 == 0 and largest > 0:
         return largest - 1, largest
-    upper = (word >> 8) % 10100
-    return following(word) % (upper + 1), upper
+    second = following(word)
+    return basis_points(second), basis_points(following(second))
 
 
 def cases(count):

@@ -85,12 +85,6 @@ def places(n):
     return (n + 1) * (n + 2) // 2
 
 
-def store(n, p, rho):
-    """The filled store: low and high significands, low and high exponents."""
-    sides = [[x for row in steps(side, n, p, rho)[0] for x in row] for side in (0, 1)]
-    return [[x[part] for x in sides[side]] for part in (0, 1) for side in (0, 1)]
-
-
 def first(grounds):
     """The number of the first ground that applies, or 0."""
     return next((number for number, applies in grounds if applies), 0)

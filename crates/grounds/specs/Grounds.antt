@@ -9,7 +9,7 @@ use Rattle.model.specs.Number.{triangle}
 use Rattle.steps.specs.Pool.{largestPool}
 pub mod Laws
 
--- A ground by its number, and whether it applies.
+-- A ground, the scope paper's term for a reason to say no: its number, and whether it applies.
 pub record Ground : Type 0 where
   pub number : ℕ
   pub applies : Bool
@@ -30,39 +30,39 @@ someShorter m (l ∷ ls) = ltb l m || someShorter m ls
 
 -- ---- each ground
 
--- n is 0 or above 64.
+-- No asset, or more than the largest pool has.
 unfoldable pub assetsGround : (n : ℕ) → Ground
 assetsGround n = record { number = 1; applies = eqb n 0 || ltb largestPool n }
 
--- p is above 10,000.
+-- More than certainty.
 unfoldable pub probabilityGround : (p : ℕ) → Ground
 probabilityGround p = record { number = 2; applies = ltb whole p }
 
--- ρ is above 10,000.
+-- More than full correlation.
 unfoldable pub correlationGround : (ρ : ℕ) → Ground
 correlationGround ρ = record { number = 3; applies = ltb whole ρ }
 
--- R is above 10,000.
+-- More than all is recovered.
 unfoldable pub recoveryGround : (R : ℕ) → Ground
 recoveryGround R = record { number = 4; applies = ltb whole R }
 
--- B is above 10,000.
+-- The tranche ends above the pool.
 unfoldable pub upperGround : (B : ℕ) → Ground
 upperGround B = record { number = 5; applies = ltb whole B }
 
--- A is not below B.
+-- The tranche has no width.
 unfoldable pub attachmentsGround : (A B : ℕ) → Ground
 attachmentsGround A B = record { number = 6; applies = not (ltb A B) }
 
--- Some store slice given is shorter than (n+1)(n+2)/2.
+-- A slice of the store has no room for rows 0 to n.
 unfoldable pub storeGround : (n : ℕ) (lengths : List ℕ) → Ground
 storeGround n lengths = record { number = 7; applies = someShorter (storePlaces n) lengths }
 
--- The column slice is shorter than n+1.
+-- The slice of units has no room for rows 0 to n.
 unfoldable pub columnGround : (n units : ℕ) → Ground
 columnGround n units = record { number = 8; applies = ltb units (n + 1) }
 
--- The row asked for is above n.
+-- There is no row k.
 unfoldable pub rowGround : (n k : ℕ) → Ground
 rowGround n k = record { number = 9; applies = ltb n k }
 

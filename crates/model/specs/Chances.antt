@@ -44,8 +44,8 @@ mean r = share r (sum (suc (r .assets)) (λ j. j * r .numerator j))
 unfoldable pub tailsTotal : Chances → Fraction
 tailsTotal r = share r (sum (r .assets) (λ i. tailNumerator r (suc i)))
 
--- The loss units of X defaults among n assets, for recovery R and a tranche from A to B, in basis points:
--- X × (10,000 − R) − A × n, cut to (B − A) × n if above, then raised to 0 if below 0.
+-- The loss units of X defaults among n assets, for recovery R and a tranche from A to B, in basis points: what the defaults lose, less A × n. That is an
+-- integer, at most the width (B − A) × n, and none is below zero.
 unfoldable pub lossUnits : (n R A B X : ℕ) → ℕ
 lossUnits n R A B X = raise (cut ((B - A) * n) (pos (X * complement R) -ℤ pos (A * n)))
 

@@ -47,8 +47,8 @@ pub fn fill_both(
     LastRows { low, high }
 }
 
-// Fills the store with rows 0 to n: entry j of row k, the bounds of P(j,k), stands at place k(k+1)/2 + j. Later places keep their
-// content. Gives the number of a refusal, or 0. The recovery plays no part.
+// Fills the store with rows 0 to n, row k from place k(k+1)/2 on, and writes nothing behind them. Gives the number of a refusal,
+// or 0. The recovery plays no part.
 pub fn fill(
     pool: Pool,
     low_significands: &mut [u32],

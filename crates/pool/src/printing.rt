@@ -5,8 +5,8 @@ use kept::Side;
 ghost use Rattle.pool.specs.Stores.{store};
 ghost use Rattle.pool.specs.Calls.{Prints};
 
-// Writes rows 0 to n of the column: row k, in units, is the printed tail at k less that at k + 1. Later places keep their content.
-// The store is filled on the way. Gives the number of a refusal, or 0. The recovery plays no part.
+// Writes rows 0 to n of the column, each the difference of two printed tails, and nothing behind them. The store is filled on the
+// way. Gives the number of a refusal, or 0. The recovery plays no part.
 pub fn column(
     pool: Pool,
     low_significands: &mut [u32],

@@ -3,7 +3,9 @@
 use pool::Pool;
 use pool::Tranche;
 use pool_runs::column;
+use pool_runs::column_over;
 use pool_runs::fill;
+use pool_runs::filled_row;
 use pool_runs::loss;
 use pool_runs::loss_over;
 use pool_runs::row;
@@ -120,6 +122,15 @@ fn rows() {
     row(64, 0xffff_ffff, 2_145);
 }
 
+fn filled_rows() {
+    let three = pool_of(3, 1_000, 3_000);
+    filled_row(three, 0);
+    filled_row(three, 2);
+    filled_row(three, 3);
+    filled_row(three, 4);
+    filled_row(pool_of(64, 1_000, 3_000), 64);
+}
+
 // ---- the column
 
 fn column_ample(assets: u32, probability: u32, correlation: u32) {
@@ -168,6 +179,15 @@ fn column_lengths(assets: u32, exact: usize, short: usize, rows: usize)
     column(pool, exact + 1, exact + 2, exact + 3, exact + 5, rows + 5);
 }
 
+// The column does not depend on what the slices held, and the places behind the store keep it.
+fn columns_over() {
+    let three = pool_of(3, 1_000, 3_000);
+    column_over(pool_of(10, 500, 250), three);
+    column_over(pool_of(2, 500, 250), three);
+    column_over(pool_of(64, 10_000, 10_000), three);
+    column_over(pool_of(10, 500, 250), pool_of(65, 1_000, 3_000));
+}
+
 fn columns() {
     column_pools();
     column_ends(1);
@@ -178,19 +198,31 @@ fn columns() {
     column(pool_of(65, 1_000, 3_000), 0, 0, 0, 0, 0);
     column(pool_of(3, 10_001, 3_000), 0, 0, 0, 0, 0);
     column(pool_of(3, 1_000, 10_001), 0, 0, 0, 0, 0);
+    columns_over();
 }
 
 // ---- the tranche loss
 
-// A tranche of the pool with 3 assets, probability 1,000 and correlation 3,000.
-fn three_loss(recovery: u32, lower: u32, upper: u32) {
+fn loss_pool(
+    assets: u32,
+    probability: u32,
+    correlation: u32,
+    recovery: u32,
+    lower: u32,
+    upper: u32,
+) {
     let pool = Pool {
-        assets: 3,
-        probability: 1_000,
-        correlation: 3_000,
+        assets,
+        probability,
+        correlation,
         recovery,
     };
     loss(pool, Tranche { lower, upper }, 2_150, 2_150, 2_150, 2_150);
+}
+
+// A tranche of the pool with 3 assets, probability 1,000 and correlation 3,000.
+fn three_loss(recovery: u32, lower: u32, upper: u32) {
+    loss_pool(3, 1_000, 3_000, recovery, lower, upper);
 }
 
 fn loss_tranches() {
@@ -214,23 +246,6 @@ fn loss_tranches() {
     three_loss(4_000, 0xffff_ffff, 0);
 }
 
-fn loss_pool(
-    assets: u32,
-    probability: u32,
-    correlation: u32,
-    recovery: u32,
-    lower: u32,
-    upper: u32,
-) {
-    let pool = Pool {
-        assets,
-        probability,
-        correlation,
-        recovery,
-    };
-    loss(pool, Tranche { lower, upper }, 2_150, 2_150, 2_150, 2_150);
-}
-
 fn loss_pools() {
     loss_pool(64, 1, 0, 0, 9_999, 10_000);
     loss_pool(61, 1, 0, 6_337, 3_596, 6_423);
@@ -247,52 +262,46 @@ fn loss_pools() {
     loss_pool(3, 1_000, 10_001, 10_001, 0, 10_000);
 }
 
-fn loss_lengths(assets: u32, exact: usize, short: usize)
-    requires { ⌜ exact ≤ 2145 ⌝ }
-{
-    let pool = Pool {
+// A pool with recovery 4,000.
+fn recovering(assets: u32) -> Pool {
+    Pool {
         assets,
         probability: 1_000,
         correlation: 3_000,
         recovery: 4_000,
-    };
-    let tranche = Tranche {
-        lower: 1_000,
+    }
+}
+
+// A tranche up to 3,000.
+fn tranche_from(lower: u32) -> Tranche {
+    Tranche {
+        lower,
         upper: 3_000,
-    };
+    }
+}
+
+fn loss_lengths(assets: u32, exact: usize, short: usize)
+    requires { ⌜ exact ≤ 2145 ⌝ }
+{
+    let pool = recovering(assets);
+    let tranche = tranche_from(1_000);
     loss(pool, tranche, exact, exact, exact, exact);
     loss(pool, tranche, short, exact, exact, exact);
     loss(pool, tranche, exact, short, exact, exact);
     loss(pool, tranche, exact, exact, short, exact);
     loss(pool, tranche, exact, exact, exact, short);
     loss(pool, tranche, exact + 1, exact + 2, exact + 3, exact + 5);
-    let empty = Tranche {
-        lower: 3_000,
-        upper: 3_000,
-    };
-    loss(pool, empty, short, short, short, short);
+    loss(pool, tranche_from(3_000), short, short, short, short);
 }
 
 // The answer does not depend on what the slices held, and the places behind the store keep it.
 fn losses_over() {
-    let three = Pool {
-        assets: 3,
-        probability: 1_000,
-        correlation: 3_000,
-        recovery: 4_000,
-    };
-    let tranche = Tranche {
-        lower: 1_000,
-        upper: 3_000,
-    };
+    let three = recovering(3);
+    let tranche = tranche_from(1_000);
     loss_over(pool_of(10, 500, 250), three, tranche);
     loss_over(pool_of(2, 500, 250), three, tranche);
     loss_over(pool_of(64, 10_000, 10_000), three, tranche);
-    let empty = Tranche {
-        lower: 3_000,
-        upper: 3_000,
-    };
-    loss_over(pool_of(10, 500, 250), three, empty);
+    loss_over(pool_of(10, 500, 250), three, tranche_from(3_000));
 }
 
 fn losses() {
@@ -307,6 +316,7 @@ fn losses() {
 fn main() {
     fills();
     rows();
+    filled_rows();
     columns();
     losses();
 }

@@ -1,5 +1,5 @@
-// Runs a call on lent slices and prints a line: what it was given, the refusal or the answer, how many places of each slice the
-// call has changed, and a checksum of each. The slices are the first places of longer arrays, so that a write behind them is seen.
+// Runs a call on lent slices and prints a line: what it was given, the refusal or the answer, and a checksum of each array. The
+// slices are the first places of the arrays, so that a write behind them is seen.
 use pool::Answer;
 use pool::Loss;
 use pool::Pool;
@@ -50,36 +50,12 @@ fn write_lengths(a: usize, b: usize, c: usize, d: usize) {
     write_length(d);
 }
 
-// How many numbers are not the mark.
-fn changed_naturals(numbers: &[u32]) -> usize {
-    let mut count = 0;
-    for i in 0..numbers.len() {
-        if numbers[i] != MARK {
-            count += 1;
-        }
-    }
-    count
-}
-
-fn changed_integers(numbers: &[i32]) -> usize {
-    let mut count = 0;
-    for i in 0..numbers.len() {
-        let n = numbers[i];
-        if n != EXPONENT_MARK {
-            count += 1;
-        }
-    }
-    count
-}
-
 fn write_naturals(numbers: &[u32]) {
-    write_length(changed_naturals(numbers));
     write(b" ");
     write_word(naturals_checksum(numbers));
 }
 
 fn write_integers(numbers: &[i32]) {
-    write_length(changed_integers(numbers));
     write(b" ");
     write_word(integers_checksum(numbers));
 }
@@ -90,7 +66,7 @@ fn write_store(
     low_exponents: &[i32],
     high_exponents: &[i32],
 ) {
-    write(b" changed");
+    write(b" slices");
     write_naturals(low_significands);
     write_naturals(high_significands);
     write_integers(low_exponents);
@@ -144,11 +120,13 @@ pub fn fill(pool: Pool, a: usize, b: usize, c: usize, d: usize) {
     );
 }
 
-// Gives each place its own number.
-fn number_places(places: &mut [u32]) {
-    for i in 0..places.len() {
-        places[i] = (i % 10_000) as u32;
+// Each place holds its own number.
+fn numbered() -> [u32; PLACES] {
+    let mut places = [0u32; PLACES];
+    for i in 0..PLACES {
+        places[i] = i as u32;
     }
+    places
 }
 
 fn write_part(part: &[u32]) {
@@ -162,8 +140,7 @@ fn write_part(part: &[u32]) {
 }
 
 pub fn row(n: u32, k: u32, length: usize) {
-    let mut places = [0u32; PLACES];
-    number_places(&mut places);
+    let mut places = numbered();
     write(b"row");
     write_field(n);
     write_field(k);
@@ -174,13 +151,45 @@ pub fn row(n: u32, k: u32, length: usize) {
     write_part(pool::row(n, k, part));
 }
 
-fn write_rows(units: &[u32], count: u32) {
-    for k in 0..count {
-        let at = k as usize;
-        if at < units.len() {
-            write_field(units[at]);
-        }
+fn write_numbers(numbers: &[u32]) {
+    for i in 0..numbers.len() {
+        write_field(numbers[i]);
     }
+}
+
+// Row k of the low significands of a filled store.
+pub fn filled_row(pool: Pool, k: u32) {
+    let mut low_significands = [MARK; PLACES];
+    let mut high_significands = [MARK; PLACES];
+    let mut low_exponents = [EXPONENT_MARK; PLACES];
+    let mut high_exponents = [EXPONENT_MARK; PLACES];
+    pool::fill(
+        pool,
+        &mut low_significands,
+        &mut high_significands,
+        &mut low_exponents,
+        &mut high_exponents,
+    );
+    write(b"filled");
+    write_pool(pool);
+    write(b" row");
+    write_field(k);
+    let part = pool::row(pool.assets, k, &low_significands);
+    write(b" part");
+    write_length(part.len());
+    write_numbers(part);
+    write(b"\n");
+}
+
+// The refusal, rows 0 to n where it is 0, and the checksum of what the rows were written to.
+fn write_column(pool: Pool, refusal: u32, units: &[u32]) {
+    write_refusal(refusal);
+    let rows = pool.assets as usize + 1;
+    if refusal == 0 && rows <= units.len() {
+        write_numbers(&units[0..rows]);
+    }
+    write(b" rows");
+    write_naturals(units);
 }
 
 pub fn column(pool: Pool, a: usize, b: usize, c: usize, d: usize, length: usize) {
@@ -201,12 +210,42 @@ pub fn column(pool: Pool, a: usize, b: usize, c: usize, d: usize, length: usize)
     write_pool(pool);
     write_lengths(a, b, c, d);
     write_length(length);
-    write_refusal(refusal);
-    if refusal == 0 {
-        write_rows(&units, pool.assets % 65 + 1);
-    }
-    write(b" rows");
-    write_naturals(&units);
+    write_column(pool, refusal, &units);
+    write_store(
+        &low_significands,
+        &high_significands,
+        &low_exponents,
+        &high_exponents,
+    );
+}
+
+// The column on slices that hold another pool's store.
+pub fn column_over(other: Pool, pool: Pool) {
+    let mut low_significands = [MARK; PLACES];
+    let mut high_significands = [MARK; PLACES];
+    let mut low_exponents = [EXPONENT_MARK; PLACES];
+    let mut high_exponents = [EXPONENT_MARK; PLACES];
+    let mut units = [MARK; ROWS];
+    pool::fill(
+        other,
+        &mut low_significands,
+        &mut high_significands,
+        &mut low_exponents,
+        &mut high_exponents,
+    );
+    let refusal = pool::column(
+        pool,
+        &mut low_significands,
+        &mut high_significands,
+        &mut low_exponents,
+        &mut high_exponents,
+        &mut units,
+    );
+    write(b"over");
+    write_pool(other);
+    write(b" column");
+    write_pool(pool);
+    write_column(pool, refusal, &units);
     write_store(
         &low_significands,
         &high_significands,

@@ -7,65 +7,86 @@ use pool_runs::fill;
 use pool_runs::loss;
 use vectors::next;
 
-// Basis points: the ends more often than by chance, small numbers, and now and then one above 10,000.
+// Basis points: one in eight above 10,000, three in eight at 0, 1 or 10,000, and small numbers more often than by chance.
 fn basis_points(word: u64) -> u32 {
-    let kind = word % 8;
+    let kind = word % 16;
     let rest = word >> 8;
-    if kind == 0 {
+    if kind < 2 {
         return 0;
     }
-    if kind == 1 {
+    if kind < 4 {
         return 1;
     }
-    if kind == 2 {
+    if kind < 6 {
         return 10_000;
     }
-    if kind == 3 {
-        return (rest % 10_100) as u32;
+    if kind == 6 {
+        return 10_001;
     }
-    if kind < 6 {
+    if kind == 7 {
+        return (10_001 + rest % 4_000_000_000) as u32;
+    }
+    if kind < 12 {
         return (rest % 400) as u32;
     }
     (rest % 10_001) as u32
 }
 
-// Mostly from 1 to 20; one in eight from 40 to 64, and one in sixteen from 0 to 65.
+// One in eight 0 or 65, one in four from 60 to 64, one in eight from 1 to 64; else from 1 to 20.
 fn assets(word: u64) -> u32 {
     let kind = word % 16;
     let rest = word >> 8;
     if kind == 0 {
-        return (rest % 66) as u32;
+        return 0;
     }
-    if kind < 3 {
-        return (40 + rest % 25) as u32;
+    if kind == 1 {
+        return 65;
+    }
+    if kind < 6 {
+        return (60 + rest % 5) as u32;
+    }
+    if kind < 8 {
+        return (1 + rest % 64) as u32;
     }
     (1 + rest % 20) as u32
 }
 
+// Every second large pool has probability 1 and correlation 0: the losses of its highest tranches are about 2^−800.
 fn random_pool(word: u64) -> Pool {
+    let assets = assets(word);
     let second = next(word);
     let third = next(second);
+    let recovery = basis_points(next(third));
+    if assets > 55 && second % 2 == 0 {
+        return Pool {
+            assets,
+            probability: 1,
+            correlation: 0,
+            recovery,
+        };
+    }
     Pool {
-        assets: assets(word),
+        assets,
         probability: basis_points(second),
         correlation: basis_points(third),
-        recovery: basis_points(next(third)),
+        recovery,
     }
 }
 
-// One in four the narrowest below the largest loss; else a lower attachment from 0 to the upper one, which may be above 10,000.
+// Every second the narrowest below the largest loss, if that is not 0; else two attachments that do not depend on each other.
 fn random_tranche(word: u64, recovery: u32) -> Tranche {
-    if word % 4 == 0 {
-        let largest = 10_000 - recovery % 10_000;
-        return Tranche {
-            lower: largest - 1,
-            upper: largest,
-        };
+    if word % 2 == 0 {
+        if recovery < 10_000 {
+            return Tranche {
+                lower: 9_999 - recovery,
+                upper: 10_000 - recovery,
+            };
+        }
     }
-    let upper = (word >> 8) % 10_100;
+    let second = next(word);
     Tranche {
-        lower: (next(word) % (upper + 1)) as u32,
-        upper: upper as u32,
+        lower: basis_points(second),
+        upper: basis_points(next(second)),
     }
 }
 

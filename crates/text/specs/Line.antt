@@ -1,4 +1,4 @@
--- The line that the program reads: n, p, ρ, each one to five decimal digits, one space between, one newline at the end, nothing after.
+-- Which input is a line: three decimal numbers, of five digits at most, with a single space before the second and the third and a newline as the last byte.
 -- Assumes nothing.
 use Prim.Native.Nat.{ℕ, _+_, _*_, _-_, _≤_}
 use Prim.Native.Char.{code}

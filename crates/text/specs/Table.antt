@@ -22,7 +22,7 @@ unfoldable pub digitsBySteps : (steps number : ℕ) → List ℕ
 digitsBySteps zero number = []
 digitsBySteps (suc steps) number = cond (ltb number 10) [] (digitsBySteps steps (number / 10)) ++ digit (number % 10) ∷ []
 
--- A number in decimal digits. It has at most one more than its value, so the steps are enough.
+-- A number in decimal digits. No number has more digits than one more than its value, so the steps are enough.
 unfoldable pub decimal : ℕ → List ℕ
 decimal number = digitsBySteps (suc number) number
 

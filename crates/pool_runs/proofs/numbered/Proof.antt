@@ -1,18 +1,15 @@
--- `number_places` is safe.
+-- `numbered` is safe: the number of a place fits.
 -- Assumes nothing.
 use Prim.Native.Nat.{_-_}
-use mathlib.Core.Path.{_≡_}
-use native.Mathlib.Omega.{arith}
-use lib.ListN.{length, length-set}
 use borrow.Author.Needs.{needs}
-use Rattle.pool_runs.proofs.number_places.Statement.{statement}
-use Rattle.pool_runs.proofs.number_places.Tie as tie
+use Rattle.pool_runs.proofs.numbered.Statement.{statement}
+use Rattle.pool_runs.proofs.numbered.Tie as tie
 
 abbrev Inv-loop : tie.InvT-loop
-Inv-loop places₀ i₀ i-end places i = (i-end ≡ length places₀) × (length places ≡ length places₀)
+Inv-loop places₀ i₀ places i = Unit {0}
 
 abbrev μ-loop : tie.MeasureT-loop
-μ-loop places₀ i₀ i-end places i = i-end - i
+μ-loop places₀ i₀ places i = 2150 - i
 
 loop-holds : tie.Need-loop-holds Inv-loop μ-loop
 loop-holds c = search needs
@@ -23,8 +20,8 @@ cast-places c = search needs
 mul-places : tie.Need-mul-places Inv-loop μ-loop
 mul-places c = search needs
 
-slice-write-places : tie.Need-slice-write-places Inv-loop μ-loop
-slice-write-places c = search needs
+array-write-places : tie.Need-array-write-places Inv-loop μ-loop
+array-write-places c = search needs
 
 add-i : tie.Need-add-i Inv-loop μ-loop
 add-i c = search needs
@@ -33,16 +30,13 @@ loop-less : tie.Need-loop-less Inv-loop μ-loop
 loop-less c = search needs
 
 loop-again : tie.Need-loop-again Inv-loop μ-loop
-loop-again c = simp length-set (omega arith)
-
-same-length : tie.Need-same-length Inv-loop μ-loop
-same-length c = search needs
+loop-again c = search needs
 
 returns : tie.Need-returns Inv-loop μ-loop
 returns c = search needs
 
-pub number-places-spec : {M : Type 1} → statement M
-number-places-spec =
+pub numbered-spec : {M : Type 1} → statement M
+numbered-spec =
     tie.close
     (tie.spec
     Inv-loop
@@ -50,9 +44,8 @@ number-places-spec =
     loop-holds
     cast-places
     mul-places
-    slice-write-places
+    array-write-places
     add-i
     loop-less
     loop-again
-    same-length
     returns)
