@@ -24,8 +24,8 @@ pub record AnswersInput (input text : List ℕ) : Type 0 where
   pub no-line : ((n p ρ : ℕ) → Accepts input n p ρ → ⊥) → text ≡ refusedLine
   pub line : (n p ρ : ℕ) → Accepts input n p ρ → AnswersPool n p ρ text
 
--- The first bytes of a reply, as many as its length says, answer. `count` follows from `within`; with both, a caller takes that part of the text without a
--- proof of its own.
+-- The first bytes of a reply, as many as its length says, answer; those behind them are free. `count` follows from `within`; with both, a caller takes that
+-- part of the text without a proof of its own.
 pub record Carries (Answers : List ℕ → Type 0) (reply : Reply) : Type 0 where
   pub within : reply .length ≤ length (reply .text)
   pub count : reply .length ≡ length (take (reply .length) (reply .text))
