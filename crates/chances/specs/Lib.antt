@@ -1,4 +1,4 @@
-pub mod Orders
+pub mod Binomials
 pub mod Chances
 pub mod Tails
 pub mod Loss

@@ -12,8 +12,8 @@ use Rattle.steps.specs.Pool.{largestPool}
 use Rattle.rows.specs.Working.{Entries}
 pub mod Laws
 
--- A tranche from A to B on n assets with recovery R.
-pub record Tranche (n R A B : ℕ) : Type 0 where
+-- A tranche from A to B on n assets with recovery R, each in its range.
+pub record TrancheInRange (n R A B : ℕ) : Type 0 where
   pub assets : n ≤ largestPool
   pub recovery : R ≤ whole
   pub upper : B ≤ whole
@@ -21,7 +21,7 @@ pub record Tranche (n R A B : ℕ) : Type 0 where
 
 -- What step 6 asks: some assets, and chances that have, as all that is made of them, exponents in their range.
 pub record LossReady (side : Side) (n : ℕ) (chances : List Kept) (R A B : ℕ) : Type 0 where
-  pub tranche : Tranche n R A B
+  pub tranche : TrancheInRange n R A B
   pub some : 0 < n
   pub chance : ℕ → Kept
   pub entries : Entries (suc n) chances chance

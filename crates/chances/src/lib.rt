@@ -4,24 +4,24 @@ use kept::Side;
 use rows::PLACES;
 ghost use Rattle.chances.specs.Chances.{ChancesReady, ChancesMade};
 
+mod binomials;
 pub mod loss;
-mod orders;
 pub mod tails;
 
-use orders::orders;
+use binomials::binomials;
 
 // The chances of 0 to n defaults in any order, from the entries of row n.
 pub fn chances(n: u32, row: [Kept; PLACES], side: Side) -> [Kept; PLACES]
     requires { ⌜ ChancesReady side n row ⌝ }
     ensures { λ r. ⌜ ChancesMade side n row r ⌝ }
 {
-    let counts = orders(n);
+    let coefficients = binomials(n);
     let zero = Kept::zero();
     let mut chances = [zero; PLACES];
     let places = n as usize + 1;
     for j in 0..places {
-        let count = Kept::from_integer(counts[j], side);
-        chances[j] = count.product(row[j], side);
+        let coefficient = Kept::from_integer(coefficients[j], side);
+        chances[j] = coefficient.product(row[j], side);
     }
     chances
 }

@@ -1,18 +1,19 @@
 // The expected loss of a tranche.
 use kept::Kept;
 use kept::Side;
+use model::WHOLE;
 use rows::PLACES;
 ghost use mathlib.Core.Path.{_≡_};
 ghost use Prim.Native.Nat.{_≤_};
 ghost use Rattle.model.specs.Chances.{lossUnits};
-ghost use Rattle.chances.specs.Loss.{Tranche, LossReady, LossMade};
+ghost use Rattle.chances.specs.Loss.{TrancheInRange, LossReady, LossMade};
 
 // The loss units of so many defaults among n assets: what is lost, cut at the upper attachment, less the lower one.
 fn loss_units(n: u32, defaults: u32, recovery: u32, lower: u32, upper: u32) -> u32
-    requires { ⌜ Tranche n recovery lower upper ⌝ ∗ ⌜ defaults ≤ n ⌝ }
+    requires { ⌜ TrancheInRange n recovery lower upper ⌝ ∗ ⌜ defaults ≤ n ⌝ }
     ensures { λ r. ⌜ r ≡ lossUnits n recovery lower upper defaults ⌝ }
 {
-    let lost = defaults * (10_000 - recovery);
+    let lost = defaults * (WHOLE - recovery);
     let most = upper * n;
     let cut = if lost > most { most } else { lost };
     let least = lower * n;

@@ -1,15 +1,13 @@
 // The grounds on which a call says no. Each function gives the number of the first that applies to the numbers it is given,
 // or 0 where none does. Slices are given by their lengths: a and b are those of the significands, c and d of the exponents.
+use model::WHOLE;
+use steps::LARGEST_POOL;
 ghost use mathlib.Core.Path.{_≡_};
 ghost use mathlib.Core.List.{[], _∷_};
 ghost use Prim.Native.Nat.{_≤_};
 ghost use Rattle.steps.specs.Pool.{largestPool};
 ghost use Rattle.grounds.specs.Grounds.{assetsGround, storeGround, firstGround, storePlaces};
 ghost use Rattle.grounds.specs.Grounds.{poolGrounds, trancheGrounds, fillGrounds, rowGrounds, columnGrounds, lossGrounds};
-
-const LARGEST_POOL: u32 = 64;
-
-const WHOLE: u32 = 10_000;
 
 fn assets_refusal(n: u32) -> u32
     ensures { λ r. ⌜ r ≡ firstGround (assetsGround n ∷ []) ⌝ }

@@ -1,5 +1,6 @@
 // Kept numbers: the arithmetic that every bound is made by. A method takes the side for which it works, so that one body
 // serves both.
+use model::WHOLE;
 ghost use mathlib.Core.Path.{_≡_};
 ghost use Prim.Native.Nat.{_<_};
 ghost use Rattle.kept.specs.Rounding.{Operand, nought, unity, roundedProduct, roundedSum, roundedQuotient, ofInteger, ofBasisPoints};
@@ -57,7 +58,7 @@ impl Kept {
     pub fn from_basis_points(p: u32, side: Side) -> Kept
         ensures { λ r. ⌜ r ≡ ofBasisPoints side p ⌝ }
     {
-        ratio(p as u64, 10000, 0, side)
+        ratio(p as u64, WHOLE, 0, side)
     }
 
     // self × other

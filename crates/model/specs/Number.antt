@@ -1,4 +1,4 @@
--- Finite sums, binomial counts, binomial and alternating sums, triangle numbers, limits put to an integer.
+-- Finite sums, binomial coefficients, binomial and alternating sums, triangle numbers, limits put to an integer.
 -- Assumes nothing.
 use Prim.Native.Nat.{ℕ, zero, suc, _+_, _*_, _-_, min}
 use lib.IntN.{ℤ, pos, negsuc, negℤ, _+ℤ_}

@@ -1,1 +1,4 @@
-// The exact model of a pool's defaults. It has definitions and laws alone, in specs/, and no function.
+// The exact model of a pool's defaults. It has definitions and laws, in specs/, and no function.
+
+// One, in basis points.
+pub const WHOLE: u32 = 10_000;

@@ -1,11 +1,18 @@
 // The answer of the program `column` to its input, whole.
 use pool::Pool;
+use rows::PLACES;
 use text::line::Line;
 ghost use Rattle.reply.specs.Reply.{Carries, AnswersPool, AnswersInput};
 
+// The places of the largest pool's store: 2,145, the entries of its 65 rows.
+const STORE: usize = PLACES * (PLACES + 1) / 2;
+
+// The bytes of the longest text: 1,125, a header of 20 and 65 lines of at most 17.
+const TEXT: usize = 20 + PLACES * 17;
+
 // A text of the first `length` bytes.
 pub struct Reply {
-    pub text: [u8; 1125],
+    pub text: [u8; TEXT],
     pub length: usize,
 }
 
@@ -13,11 +20,11 @@ pub struct Reply {
 fn column_reply(n: u32, p: u32, rho: u32) -> Reply
     ensures { λ r. ⌜ Carries (AnswersPool n p rho) r ⌝ }
 {
-    let mut low_significands = [0u32; 2145];
-    let mut high_significands = [0u32; 2145];
-    let mut low_exponents = [0i32; 2145];
-    let mut high_exponents = [0i32; 2145];
-    let mut units = [0u32; 65];
+    let mut low_significands = [0u32; STORE];
+    let mut high_significands = [0u32; STORE];
+    let mut low_exponents = [0i32; STORE];
+    let mut high_exponents = [0i32; STORE];
+    let mut units = [0u32; PLACES];
     let refusal = pool::column(
         Pool {
             assets: n,
@@ -31,7 +38,7 @@ fn column_reply(n: u32, p: u32, rho: u32) -> Reply
         &mut high_exponents,
         &mut units,
     );
-    let mut text = [0u8; 1125];
+    let mut text = [0u8; TEXT];
     if refusal != 0 {
         let length = text::table::write_refused(refusal, &mut text);
         return Reply { text, length };
@@ -47,7 +54,7 @@ pub fn reply_to(input: &[u8]) -> Reply
     match text::line::read_line(input) {
         Line::Inputs(n, p, rho) => column_reply(n, p, rho),
         Line::Refused => {
-            let mut text = [0u8; 1125];
+            let mut text = [0u8; TEXT];
             let length = text::table::write_refused_line(&mut text);
             Reply { text, length }
         }

@@ -7,12 +7,10 @@ use lib.ListN.{length, drop}
 use lib.Seq.{paste}
 use lib.IntN.{ℤ}
 use Rattle.model.specs.Number.{triangle}
-use Rattle.model.specs.Fraction.{whole}
 use Rattle.kept.specs.declared.Kept.{Kept}
 use Rattle.kept.specs.declared.Side.{Side}
 use Rattle.steps.specs.Rows.{keptRow}
-use Rattle.steps.specs.Pool.{largestPool}
-use Rattle.rows.specs.Working.{Entries, workingPlaces}
+use Rattle.rows.specs.Working.{workingPlaces, Entries, InRange}
 pub mod Laws
 
 -- f 0, f 1, … f (m − 1)
@@ -51,9 +49,7 @@ pub record Stored (row : List Kept) (m at : ℕ) (s s′ : List ℕ) (e e′ : L
 
 -- What filling rows 0 to n of one side asks of its inputs and of the two slices.
 pub record Fillable (n p ρ : ℕ) (s : List ℕ) (e : List ℤ) : Type 0 where
-  pub assets : n ≤ largestPool
-  pub probability : p ≤ whole
-  pub correlation : ρ ≤ whole
+  pub range : InRange n p ρ
   pub significands : triangle (suc n) ≤ length s
   pub exponents : triangle (suc n) ≤ length e
 

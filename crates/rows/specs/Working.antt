@@ -32,15 +32,15 @@ pub record InRange (n p ρ : ℕ) : Type 0 where
   pub correlation : ρ ≤ whole
 
 -- One entry of a pass, for a correlation that is a kept number already.
-unfoldable pub roundedPassStep : Side → (rho x y : Kept) → Kept
-roundedPassStep side rho x y = roundedSum side x (roundedProduct side rho y)
+unfoldable pub roundedPassStep : Side → (correlation x y : Kept) → Kept
+roundedPassStep side correlation x y = roundedSum side x (roundedProduct side correlation y)
 
 -- What the passes over row k ask: the correlation and the row are those of a pool in range.
-pub record Passable (side : Side) (k : ℕ) (rho : Kept) (row : List Kept) : Type 0 where
+pub record Passable (side : Side) (k : ℕ) (correlation : Kept) (row : List Kept) : Type 0 where
   pub p : ℕ
   pub ρ : ℕ
   pub range : InRange k p ρ
-  pub rho-is : rho ≡ constant side ρ
+  pub correlation-is : correlation ≡ constant side ρ
   pub entries : Entries (suc k) row (keptRow side p ρ k)
 
 -- What is asked of the first m entries of a row and of their weights: each can be an operand.

@@ -1,6 +1,8 @@
 // The rows of the store, for one side: steps 1 to 3.
 use kept::Kept;
 use kept::Side;
+use model::WHOLE;
+use steps::LARGEST_POOL;
 ghost use Prim.Native.Nat.{suc};
 ghost use lib.ListN.{getD};
 ghost use Rattle.model.specs.Passes.{passed};
@@ -10,19 +12,19 @@ ghost use Rattle.rows.specs.Working.{Entries, Becomes, InRange, roundedP
 ghost use Rattle.rows.specs.Store.{Storable, Stored, Fillable, Filled};
 
 // The places of a working row: 65, one more than the assets of the largest pool.
-pub const PLACES: usize = 65;
+pub const PLACES: usize = LARGEST_POOL as usize + 1;
 
 // Passes 1 to k over the k + 1 entries of row k. A pass goes upward, so that entry j + 1 is still the old one when entry j is made.
-fn passes(row: [Kept; PLACES], rho: Kept, k: usize, side: Side) -> [Kept; PLACES]
-    requires { ⌜ Passable side k rho row ⌝ }
-    ensures { λ r. ⌜ Becomes (suc k) row r (passed (roundedPassStep side rho) (suc k) k) ⌝ }
+fn passes(row: [Kept; PLACES], correlation: Kept, k: usize, side: Side) -> [Kept; PLACES]
+    requires { ⌜ Passable side k correlation row ⌝ }
+    ensures { λ r. ⌜ Becomes (suc k) row r (passed (roundedPassStep side correlation) (suc k) k) ⌝ }
 {
     let mut w = row;
     for s in 0..k {
         for j in 0..k - s {
             let x = w[j];
             let y = w[j + 1];
-            w[j] = x.sum(rho.product(y, side), side);
+            w[j] = x.sum(correlation.product(y, side), side);
         }
     }
     w
@@ -33,8 +35,8 @@ fn weights(p: u32, rho: u32, n: usize, side: Side) -> [Kept; PLACES]
     requires { ⌜ InRange n p rho ⌝ }
     ensures { λ r. ⌜ Entries n r (keptWeight side p rho) ⌝ }
 {
-    let a = Kept::from_basis_points(10000 - p, side);
-    let q = Kept::from_basis_points(10000 - rho, side);
+    let a = Kept::from_basis_points(WHOLE - p, side);
+    let q = Kept::from_basis_points(WHOLE - rho, side);
     let zero = Kept::zero();
     let mut w = [zero; PLACES];
     let mut power = Kept::one();
@@ -92,7 +94,7 @@ pub fn fill_side(
 {
     let count = n as usize;
     let correlation = Kept::from_basis_points(rho, side);
-    let q = Kept::from_basis_points(10000 - rho, side);
+    let q = Kept::from_basis_points(WHOLE - rho, side);
     let g = weights(p, rho, count, side);
     let zero = Kept::zero();
     let mut w = [zero; PLACES];

@@ -6,18 +6,18 @@ use native.Mathlib.Omega.{arith}
 use Rattle.kept.specs.Rounding.{nought}
 use Rattle.steps.specs.Pool.{largestPool}
 use Rattle.rows.specs.Working.{workingPlaces}
-use Rattle.chances.specs.Chances.Laws.{ChancesBelow, entry-operand, chances-none, chances-all, count-operand, chances-next}
+use Rattle.chances.specs.Chances.Laws.{ChancesBelow, entry-operand, chances-none, chances-all, coefficient-operand, chances-next}
 use Rattle.chances.proofs.chances.Statement.{statement}
 use Rattle.chances.proofs.chances.Tie as tie
 
 abbrev Inv-loop : tie.InvT-loop
-Inv-loop n side row counts chances₀ places j₀ chances j = (n ≤ 64) × (j ≤ suc n) × ChancesBelow side n j row chances
+Inv-loop n side row coefficients chances₀ places j₀ chances j = (n ≤ 64) × (j ≤ suc n) × ChancesBelow side n j row chances
 
 abbrev μ-loop : tie.MeasureT-loop
-μ-loop n side row counts chances₀ places j₀ chances j = suc n - j
+μ-loop n side row coefficients chances₀ places j₀ chances j = suc n - j
 
-orders-requires : tie.Need-orders-requires Inv-loop μ-loop
-orders-requires c κs = omega arith
+binomials-requires : tie.Need-binomials-requires Inv-loop μ-loop
+binomials-requires c κs = omega arith
 
 zero-requires : tie.Need-zero-requires Inv-loop μ-loop
 zero-requires c κs = tt
@@ -49,7 +49,7 @@ unfolding nought
 product-requires c κs =
     let at-loop = c .before .before .before in
     let start = at-loop .before .before .before in (
-      count-operand (start .pre) (at-loop .before .before .orders .ensures) (at-loop .loop .j) (omega arith) (c .before .from-integer .ensures),
+      coefficient-operand (start .pre) (at-loop .before .before .binomials .ensures) (at-loop .loop .j) (omega arith) (c .before .from-integer .ensures),
       entry-operand (start .pre .entries) (start .pre .entry-ranged) _ (omega arith),
     )
 
@@ -71,7 +71,7 @@ loop-again c =
     let at-loop = c .before .before .before .before in
     let start = at-loop .before .before .before in
     let next =
-    chances-next (start .pre) (at-loop .before .before .orders .ensures) (at-loop .loop .j) (omega arith) (c .before .before .from-integer .ensures)
+    chances-next (start .pre) (at-loop .before .before .binomials .ensures) (at-loop .loop .j) (omega arith) (c .before .before .from-integer .ensures)
     (at-loop .loop .inv .2) (c .product .result) (c .product .ensures) in
     (omega arith, omega arith, next)
 
@@ -86,7 +86,7 @@ chances-spec =
     (tie.spec
     Inv-loop
     μ-loop
-    orders-requires
+    binomials-requires
     zero-requires
     add-places
     loop-holds

@@ -15,7 +15,7 @@ use Rattle.steps.specs.Exponents.Laws.{ranged-operand}
 use Rattle.rows.specs.Working.{Entries, workingPlaces}
 use Rattle.rows.specs.Working.Laws.{entries-more}
 use Rattle.chances.specs.Chances.{ChancesReady, ChancesMade}
-use Rattle.chances.specs.Orders.{Orders}
+use Rattle.chances.specs.Binomials.{Binomials}
 
 -- ---- any working row
 
@@ -36,20 +36,20 @@ module _ {side : Side} {n : ℕ} {row : List Kept} where
   pub chances-all : {r : List Kept} → ChancesBelow side n (suc n) row r → ChancesMade side n row r
   chances-all done = record { chances = done .chances }
 
-  -- The chance of j defaults: x is the count of orders.
+  -- The chance of j defaults: x is the binomial coefficient.
   module _
-      (ready : ChancesReady side n row) {counts : List ℕ} (orders : Orders n counts)
-      (j : ℕ) (l : j ≤ n) {x : Kept} (is : x ≡ ofInteger side (getD counts j 0)) where
-    count-is : x ≡ ofInteger side (choose n j)
-    count-is = is ∙ ap (ofInteger side) (orders .count j l)
+      (ready : ChancesReady side n row) {coefficients : List ℕ} (binomials : Binomials n coefficients)
+      (j : ℕ) (l : j ≤ n) {x : Kept} (is : x ≡ ofInteger side (getD coefficients j 0)) where
+    coefficient-is : x ≡ ofInteger side (choose n j)
+    coefficient-is = is ∙ ap (ofInteger side) (binomials .coefficient j l)
 
-    pub count-operand : Operand x
-    count-operand = rw count-is (ranged-operand (ready .ranged (is-count j l)))
+    pub coefficient-operand : Operand x
+    coefficient-operand = rw coefficient-is (ranged-operand (ready .ranged (is-count j l)))
 
     pub chances-next : {r : List Kept} → ChancesBelow side n j row r → (y : Kept) → y ≡ roundedProduct side x (getD row j nought)
         → ChancesBelow side n (j + 1) row (set r j y)
     unfolding workingPlaces keptChance
     chances-next done y product = record {
       chances = λ entry e.
-          entries-more (done .chances entry e) (omega (arith, ready .assets)) (product ∙ ap₂ (roundedProduct side) count-is (e .entry j (omega arith)));
+          entries-more (done .chances entry e) (omega (arith, ready .assets)) (product ∙ ap₂ (roundedProduct side) coefficient-is (e .entry j (omega arith)));
     }

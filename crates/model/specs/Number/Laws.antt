@@ -1,8 +1,8 @@
--- Laws of finite sums, binomial counts and triangle numbers.
+-- Laws of finite sums, binomial coefficients and triangle numbers.
 -- Assumes nothing.
 use Prim.Native.Nat.{ℕ, zero, suc, _+_, _*_, _-_, _^_, _≤_, _<_, suc-le-suc}
 use mathlib.Core.Path.{_≡_, refl, sym, _∙_, ap, ap₂}
-use native.Mathlib.Nat.{le-step, le-of-suc-le-suc, le-of-eq, le-antisymm, lt-suc-self, add-zero, zero-add, add-suc, suc-add, add-sub-of-le, add-mul, mul-add, mul-left-comm, mul-le-mul, pow-succ'}
+use native.Mathlib.Nat.{le-step, le-of-suc-le-suc, le-of-eq, le-of-lt, le-antisymm, lt-suc-self, add-zero, zero-add, add-suc, suc-add, add-sub-of-le, add-mul, mul-add, mul-left-comm, mul-le-mul, pow-succ'}
 use native.Mathlib.Omega.{arith}
 use lib.Pow.{pow-pos}
 use Rattle.model.specs.Number.{sum, sumBetween, choose, factorial, triangle, binomialSum}
@@ -78,7 +78,7 @@ between-total (suc n) f =
       between-total n f,
     )
 
--- ---- binomial counts
+-- ---- binomial coefficients
 
 pub choose-past : (n i : ℕ) → n < i → choose n i ≡ 0
 unfolding choose
@@ -87,11 +87,19 @@ choose-past (suc n) zero l = omega arith
 choose-past zero (suc i) l = refl
 choose-past (suc n) (suc i) l = omega (arith, choose-past n i (omega arith), choose-past n (suc i) (omega arith))
 
+-- C(n,i) is below 2^n but for n = 0.
+pub choose-below : (n i : ℕ) → choose (suc n) i < 2 ^ suc n
+unfolding choose
+choose-below n zero = rw (pow-succ' 2 n) (omega (arith, pow-pos n))
+choose-below zero (suc zero) = omega arith
+choose-below zero (suc (suc i)) = omega arith
+choose-below (suc n) (suc i) = rw (pow-succ' 2 (suc n)) (omega (arith, choose-below n i, choose-below n (suc i)))
+
 pub choose-at-most : (n i : ℕ) → choose n i ≤ 2 ^ n
 unfolding choose
-choose-at-most n zero = pow-pos n
+choose-at-most zero zero = pow-pos 0
 choose-at-most zero (suc i) = omega arith
-choose-at-most (suc n) (suc i) = rw (pow-succ' 2 n) (omega (arith, choose-at-most n i, choose-at-most n (suc i)))
+choose-at-most (suc n) i = le-of-lt (choose-below n i)
 
 -- (i+1) × C(n+1,i+1) = (n+1) × C(n,i)
 pub choose-absorb : (n i : ℕ) → suc i * choose (suc n) (suc i) ≡ suc n * choose n i

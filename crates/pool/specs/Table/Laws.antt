@@ -33,11 +33,11 @@ unfolding half lengths
 fillable Low ready =
     let pool = ready .accepted .pool in
     let places = ready .accepted .store in
-    record { assets = pool .assets .most; probability = pool .probability; correlation = pool .correlation; significands = places .0; exponents = places .1 .1 .0 }
+    record { range = record { assets = pool .assets .most; probability = pool .probability; correlation = pool .correlation }; significands = places .0; exponents = places .1 .1 .0 }
 fillable High ready =
     let pool = ready .accepted .pool in
     let places = ready .accepted .store in
-    record { assets = pool .assets .most; probability = pool .probability; correlation = pool .correlation; significands = places .1 .0; exponents = places .1 .1 .1 .0 }
+    record { range = record { assets = pool .assets .most; probability = pool .probability; correlation = pool .correlation }; significands = places .1 .0; exponents = places .1 .1 .1 .0 }
 
 module _ (n p ρ : ℕ) (accepted : PoolAccepted n p ρ) where
   in-range : (side : Side) {x : Kept} → PoolNumber side n p ρ x → Ranged x

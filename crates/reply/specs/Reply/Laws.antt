@@ -63,8 +63,8 @@ module _ {input : List ℕ} where
   no-line-answer none = record { no-line = λ _. refl; line = λ n p ρ line. absurd (none n p ρ line) }
 
 -- A line has at most 18 bytes.
-line-length : {input : List ℕ} {n p ρ : ℕ} → Accepts input n p ρ → length input ≤ 18
-line-length a = rw (a .line) (simp length-append (omega (arith, a .n-decimal .at-most-five, a .p-decimal .at-most-five, a .ρ-decimal .at-most-five)))
+input-length : {input : List ℕ} {n p ρ : ℕ} → Accepts input n p ρ → length input ≤ 18
+input-length a = rw (a .line) (simp length-append (omega (arith, a .n-decimal .at-most-five, a .p-decimal .at-most-five, a .ρ-decimal .at-most-five)))
 
 -- So more than 18 bytes at the start of an input are enough to answer it.
 pub start-answers : (m : ℕ) (input text : List ℕ) → 18 < m → AnswersInput (take m input) text → AnswersInput input text
@@ -72,7 +72,7 @@ start-answers m input text enough answers =
     elim (decLe (length input) m) [
       | yes short ↦ rw (take-all m input short) at answers
       | no long ↦ record {
-        no-line = λ _. answers .no-line (λ n p ρ line. omega (arith, line-length line, length-take m input));
-        line = λ n p ρ line. absurd (omega (arith, line-length line));
+        no-line = λ _. answers .no-line (λ n p ρ line. omega (arith, input-length line, length-take m input));
+        line = λ n p ρ line. absurd (omega (arith, input-length line));
       }
     ]

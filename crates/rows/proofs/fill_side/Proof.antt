@@ -13,7 +13,7 @@ use Rattle.steps.specs.Rows.{constant, keptConditional, keptJoint, keptRow}
 use Rattle.steps.specs.Pool.{largestPool}
 use Rattle.rows.specs.Working.{workingPlaces}
 use Rattle.rows.specs.Working.Laws.{AtRow, row-passable, row-weightable, row-next, next-operands, product-operand, sum-operand, at-next}
-use Rattle.rows.specs.Store.Laws.{fillable-range, Filling, filling-none, filling-lengths, filling-room, filling-more, filling-all}
+use Rattle.rows.specs.Store.Laws.{Filling, filling-none, filling-lengths, filling-room, filling-more, filling-all}
 use Rattle.rows.proofs.fill_side.Statement.{statement}
 use Rattle.rows.proofs.fill_side.Tie as tie
 
@@ -30,7 +30,7 @@ unfolding whole
 sub-from-basis-points c = omega arith
 
 weights-requires : tie.Need-weights-requires Inv-loop μ-loop
-weights-requires c κs = fillable-range (c .before .before .before .pre)
+weights-requires c κs = c .before .before .before .pre .range
 
 array-set-from-w : tie.Need-array-set-from-w Inv-loop μ-loop
 array-set-from-w c = omega arith
@@ -44,9 +44,9 @@ loop-holds c =
     let c2 = c3 .before in
     let fillable = c2 .before .before .pre in (
       record {
-        range = fillable-range fillable;
+        range = fillable .range;
         within = omega arith;
-        rho-is = rw (c2 .from-basis-points .ensures) refl;
+        correlation-is = rw (c2 .from-basis-points .ensures) refl;
         q-is = rw (c3 .from-basis-points2 .ensures) refl;
         weight = c4 .weights .ensures;
         entry = record { places = refl; entry = λ j h. let none : j ≡ 0 = omega arith in rw none (c5 .one .ensures) };

@@ -15,16 +15,16 @@ use Rattle.rows.proofs.passes.Statement.{statement}
 use Rattle.rows.proofs.passes.Tie as tie
 
 abbrev Inv-loop2 : tie.InvT-loop2
-Inv-loop2 rho k side w₀ s j₀ j-end w j = Changed (passEach side rho) (suc k) j w₀ w × (j ≤ j-end)
+Inv-loop2 correlation k side w₀ s j₀ j-end w j = Changed (passEach side correlation) (suc k) j w₀ w × (j ≤ j-end)
 
 abbrev μ-loop2 : tie.MeasureT-loop2
-μ-loop2 rho k side w₀ s j₀ j-end w j = j-end - j
+μ-loop2 correlation k side w₀ s j₀ j-end w j = j-end - j
 
 abbrev Inv-loop : tie.InvT-loop
-Inv-loop rho k side w₀ s₀ w s = Becomes (suc k) w₀ w (passed (roundedPassStep side rho) (suc k) s) × (s ≤ k)
+Inv-loop correlation k side w₀ s₀ w s = Becomes (suc k) w₀ w (passed (roundedPassStep side correlation) (suc k) s) × (s ≤ k)
 
 abbrev μ-loop : tie.MeasureT-loop
-μ-loop rho k side w₀ s₀ w s = k - s
+μ-loop correlation k side w₀ s₀ w s = k - s
 
 loop-holds : tie.Need-loop-holds Inv-loop2 μ-loop2 Inv-loop μ-loop
 unfolding passed
@@ -63,7 +63,7 @@ product-requires c κs =
     let pass = turn .before .before in
     let ready = pass .before .pre in
     let j = turn .loop2 .j in (
-      rw (ready .rho-is) (row-operand (ready .range) is-ρ),
+      rw (ready .correlation-is) (row-operand (ready .range) is-ρ),
       pass-operands (pass .loop .s) ready (pass .loop .inv .0) (turn .loop2 .inv .0) (j + 1) (omega arith) (omega arith) .0,
     )
 
@@ -118,7 +118,7 @@ loop-again : tie.Need-loop-again Inv-loop2 μ-loop2 Inv-loop μ-loop
 loop-again c =
     let pass = c .before .before .before in
     let start = pass .before in
-    (pass-more (start .args .side) (start .args .rho) (pass .loop .s) (pass .loop .inv .0) (c .before .loop2 .inv .0) (omega arith), omega arith)
+    (pass-more (start .args .side) (start .args .correlation) (pass .loop .s) (pass .loop .inv .0) (c .before .loop2 .inv .0) (omega arith), omega arith)
 
 returns : tie.Need-returns Inv-loop2 μ-loop2 Inv-loop μ-loop
 returns c =

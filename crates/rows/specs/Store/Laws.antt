@@ -15,7 +15,7 @@ use Rattle.kept.specs.declared.Kept.{Kept}
 use Rattle.kept.specs.declared.Side.{Side}
 use Rattle.kept.specs.Rounding.{nought}
 use Rattle.steps.specs.Rows.{keptRow}
-use Rattle.rows.specs.Working.{workingPlaces, Entries, InRange}
+use Rattle.rows.specs.Working.{workingPlaces, Entries}
 use Rattle.rows.specs.Store.{tabulate, overwritten, rowsBefore, storedSignificands, storedExponents, Storable, Stored, Fillable, Filled}
 
 -- ---- lists
@@ -139,9 +139,6 @@ module _ (side : Side) (p ρ : ℕ) where
 
 -- ---- the two slices
 
-pub fillable-range : {n p ρ : ℕ} {s : List ℕ} {e : List ℤ} → Fillable n p ρ s e → InRange n p ρ
-fillable-range fillable = record { assets = fillable .assets; probability = fillable .probability; correlation = fillable .correlation }
-
 -- Rows 0 to k − 1 are stored, s′ and e′ where the slices were s and e, and row k goes to the place `at`.
 pub record Filling (side : Side) (n p ρ k at : ℕ) (s s′ : List ℕ) (e e′ : List ℤ) : Type 0 where
   pub fillable : Fillable n p ρ s e
@@ -166,7 +163,7 @@ module _ {side : Side} {n p ρ k at : ℕ} {s s′ : List ℕ} {e e′ : List �
   module _ (l : k ≤ n) where
     few : suc k ≤ workingPlaces
     unfolding workingPlaces
-    few = omega (arith, filling .fillable .assets)
+    few = omega (arith, filling .fillable .range .assets)
 
     pub filling-room : Storable (k + 1) at s′ e′
     unfolding triangle

@@ -75,13 +75,13 @@ module _ {φ : (ℕ → Kept) → ℕ → Kept} {m : ℕ} where
 
 -- One pass, on every entry.
 unfoldable pub passEach : Side → Kept → (ℕ → Kept) → ℕ → Kept
-passEach side rho f i = roundedPassStep side rho (f i) (f (suc i))
+passEach side correlation f i = roundedPassStep side correlation (f i) (f (suc i))
 
 -- The pass that follows s of them.
-pub pass-more : (side : Side) (rho : Kept) (s : ℕ) {k j : ℕ} {row w u : List Kept} → Becomes (suc k) row w (passed (roundedPassStep side rho) (suc k) s)
-    → Changed (passEach side rho) (suc k) j w u → j ≡ k - s → Becomes (suc k) row u (passed (roundedPassStep side rho) (suc k) (s + 1))
+pub pass-more : (side : Side) (correlation : Kept) (s : ℕ) {k j : ℕ} {row w u : List Kept} → Becomes (suc k) row w (passed (roundedPassStep side correlation) (suc k) s)
+    → Changed (passEach side correlation) (suc k) j w u → j ≡ k - s → Becomes (suc k) row u (passed (roundedPassStep side correlation) (suc k) (s + 1))
 unfolding passed pass passEach
-pass-more side rho s {k} becomes changed e = rw (add-one s) (record {
+pass-more side correlation s {k} becomes changed e = rw (add-one s) (record {
   made = λ f entries.
       let old = becomes .made f entries in
       let new = changed .new _ old in
@@ -95,12 +95,12 @@ pass-more side rho s {k} becomes changed e = rw (add-one s) (record {
 })
 
 -- In a pass, an entry that is not reached yet, and its product with ρ.
-pub pass-operands : {side : Side} {k : ℕ} {rho : Kept} (s : ℕ) {j : ℕ} {row w u : List Kept} → Passable side k rho row
-    → Becomes (suc k) row w (passed (roundedPassStep side rho) (suc k) s) → Changed (passEach side rho) (suc k) j w u → (i : ℕ) → j ≤ i → i ≤ k
-    → Operand (getD u i nought) × Operand (roundedProduct side rho (getD u i nought))
+pub pass-operands : {side : Side} {k : ℕ} {correlation : Kept} (s : ℕ) {j : ℕ} {row w u : List Kept} → Passable side k correlation row
+    → Becomes (suc k) row w (passed (roundedPassStep side correlation) (suc k) s) → Changed (passEach side correlation) (suc k) j w u → (i : ℕ) → j ≤ i → i ≤ k
+    → Operand (getD u i nought) × Operand (roundedProduct side correlation (getD u i nought))
 unfolding keptPassStep roundedPassStep
 pass-operands {k} s ready becomes changed i l h =
-    rw (changed-rest changed (becomes .made _ (ready .entries)) i l (omega arith), ready .rho-is) (
+    rw (changed-rest changed (becomes .made _ (ready .entries)) i l (omega arith), ready .correlation-is) (
       row-operand (ready .range) (is-passed k s i (le-refl k) h),
       row-operand (ready .range) (is-pass-product k s i (le-refl k) h),
     )
@@ -108,10 +108,10 @@ pass-operands {k} s ready becomes changed i l h =
 -- ---- from row k to row k + 1
 
 -- What row k + 1 is made from: ρ, q and the weights, and row k, p_(k+1) and m_(k+1).
-pub record AtRow (side : Side) (n p ρ k : ℕ) (rho q : Kept) (weights row : List Kept) (conditional joint : Kept) : Type 0 where
+pub record AtRow (side : Side) (n p ρ k : ℕ) (correlation q : Kept) (weights row : List Kept) (conditional joint : Kept) : Type 0 where
   pub range : InRange n p ρ
   pub within : k ≤ n
-  pub rho-is : rho ≡ constant side ρ
+  pub correlation-is : correlation ≡ constant side ρ
   pub q-is : q ≡ constant side (complement ρ)
   pub weight : Entries n weights (keptWeight side p ρ)
   pub entry : Entries (suc k) row (keptRow side p ρ k)
@@ -119,21 +119,21 @@ pub record AtRow (side : Side) (n p ρ k : ℕ) (rho q : Kept) (weights row : Li
   pub joint-is : joint ≡ keptJoint side p ρ k
 
 module _
-    {side : Side} {n p ρ k : ℕ} {rho q conditional joint : Kept} {weights row : List Kept}
-    (at : AtRow side n p ρ k rho q weights row conditional joint) where
-  pub row-passable : Passable side k rho row
+    {side : Side} {n p ρ k : ℕ} {correlation q conditional joint : Kept} {weights row : List Kept}
+    (at : AtRow side n p ρ k correlation q weights row conditional joint) where
+  pub row-passable : Passable side k correlation row
   row-passable = record {
     p = p;
     ρ = ρ;
     range = record { assets = le-trans (at .within) (at .range .assets); probability = at .range .probability; correlation = at .range .correlation };
-    rho-is = at .rho-is;
+    correlation-is = at .correlation-is;
     entries = at .entry;
   }
 
-  module _ {v : List Kept} (passes : Becomes (suc k) row v (passed (roundedPassStep side rho) (suc k) k)) (l : k < n) where
+  module _ {v : List Kept} (passes : Becomes (suc k) row v (passed (roundedPassStep side correlation) (suc k) k)) (l : k < n) where
     after-passes : Entries (suc k) v (passed (keptPassStep side ρ) (suc k) k (keptRow side p ρ k))
     unfolding keptPassStep roundedPassStep
-    after-passes = rw (at .rho-is) at (passes .made _ (at .entry))
+    after-passes = rw (at .correlation-is) at (passes .made _ (at .entry))
 
     pub row-weightable : Weightable (k + 1) v weights
     unfolding workingPlaces
@@ -153,34 +153,34 @@ module _
         (rw (le-ltb (suc k) (suc k) (le-refl (suc k))) (at .joint-is)))
 
   -- What p_(k+2) and m_(k+2) are made from.
-  pub next-operands : (Operand conditional × Operand joint) × (Operand rho × Operand q)
+  pub next-operands : (Operand conditional × Operand joint) × (Operand correlation × Operand q)
   next-operands = (
     (
       rw (at .conditional-is) (row-operand (at .range) (is-conditional k (at .within))),
       rw (at .joint-is) (row-operand (at .range) (is-joint k (at .within))),
     ),
-    (rw (at .rho-is) (row-operand (at .range) is-ρ), rw (at .q-is) (row-operand (at .range) is-q)),
+    (rw (at .correlation-is) (row-operand (at .range) is-ρ), rw (at .q-is) (row-operand (at .range) is-q)),
   )
 
   module _ {x : Kept} (product : x ≡ roundedProduct side conditional q) where
     pub product-operand : Operand x
     product-operand = rw (product, at .conditional-is, at .q-is) (row-operand (at .range) (is-conditional-product k (at .within)))
 
-    module _ {y : Kept} (sum : y ≡ roundedSum side x rho) (l : k < n) where
+    module _ {y : Kept} (sum : y ≡ roundedSum side x correlation) (l : k < n) where
       next-conditional : y ≡ keptConditional side p ρ (suc k)
       unfolding keptConditional
-      next-conditional = rw (sum, product, at .conditional-is, at .q-is, at .rho-is)
+      next-conditional = rw (sum, product, at .conditional-is, at .q-is, at .correlation-is)
 
       pub sum-operand : Operand y
       sum-operand = rw next-conditional (row-operand (at .range) (is-conditional (suc k) l))
 
       pub at-next : {z : Kept} {w : List Kept} → z ≡ roundedProduct side joint y → Entries (suc (k + 1)) w (keptRow side p ρ (k + 1))
-          → AtRow side n p ρ (k + 1) rho q weights w y z
+          → AtRow side n p ρ (k + 1) correlation q weights w y z
       unfolding keptJoint
       at-next joint′ entry = rw (add-one k) (record {
         range = at .range;
         within = l;
-        rho-is = at .rho-is;
+        correlation-is = at .correlation-is;
         q-is = at .q-is;
         weight = at .weight;
         entry = rw (add-one k) at entry;

@@ -1,22 +1,22 @@
--- `orders::next_orders` meets its contract. At the loop's head the counts 0 to j of k + 1 assets are made.
+-- `binomials::next_binomials` meets its contract. At the loop's head C(k+1,0) to C(k+1,j) are made.
 -- Assumes nothing.
 use Prim.Native.Nat.{suc, _-_, _≤_, _<_}
 use mathlib.Core.Path.{_≡_}
 use native.Mathlib.Omega.{arith}
 use Rattle.steps.specs.Pool.{largestPool}
-use Rattle.chances.specs.Orders.Laws.{OrdersBelow, orders-first, pascal-word, orders-next, orders-all}
-use Rattle.chances.proofs.orders.next_orders.Statement.{statement}
-use Rattle.chances.proofs.orders.next_orders.Tie as tie
+use Rattle.chances.specs.Binomials.Laws.{BinomialsBelow, binomials-first, pascal-word, binomials-next, binomials-all}
+use Rattle.chances.proofs.binomials.next_binomials.Statement.{statement}
+use Rattle.chances.proofs.binomials.next_binomials.Tie as tie
 
 abbrev Inv-loop : tie.InvT-loop
-Inv-loop k row next₀ between j₀ next j = (k < 64) × (j ≤ k) × OrdersBelow k (suc j) next
+Inv-loop k row next₀ between j₀ next j = (k < 64) × (j ≤ k) × BinomialsBelow k (suc j) next
 
 abbrev μ-loop : tie.MeasureT-loop
 μ-loop k row next₀ between j₀ next j = k - j
 
 loop-holds : tie.Need-loop-holds Inv-loop μ-loop
 unfolding largestPool
-loop-holds c = (omega arith, omega arith, orders-first (c .pre .1))
+loop-holds c = (omega arith, omega arith, binomials-first (c .pre .1))
 
 mul-next : tie.Need-mul-next Inv-loop μ-loop
 mul-next c = omega arith
@@ -56,15 +56,15 @@ loop-less c = omega arith
 loop-again : tie.Need-loop-again Inv-loop μ-loop
 loop-again c =
     let start = c .before .before in
-    (omega arith, omega arith, orders-next (start .pre .1) (start .pre .0) (c .before .loop .j) (c .loop-test .taken) (c .before .loop .inv .2))
+    (omega arith, omega arith, binomials-next (start .pre .1) (start .pre .0) (c .before .loop .j) (c .loop-test .taken) (c .before .loop .inv .2))
 
 returns : tie.Need-returns Inv-loop μ-loop
 returns c =
     let done : c .before .loop .j ≡ c .before .before .args .k = omega arith in
-    orders-all (rw done at (c .before .loop .inv .2))
+    binomials-all (rw done at (c .before .loop .inv .2))
 
-pub next-orders-spec : {M : Type 1} → statement M
-next-orders-spec =
+pub next-binomials-spec : {M : Type 1} → statement M
+next-binomials-spec =
     tie.close
     (tie.spec
     Inv-loop

@@ -1,4 +1,4 @@
--- The counts of orders in an array.
+-- The binomial coefficients in an array.
 -- Assumes nothing.
 use Prim.Native.Nat.{ℕ, _≤_}
 use mathlib.Core.Path.{_≡_}
@@ -9,6 +9,6 @@ use Rattle.rows.specs.Working.{workingPlaces}
 pub mod Laws
 
 -- The first n + 1 places hold C(n,0) to C(n,n).
-pub record Orders (n : ℕ) (r : List ℕ) : Type 0 where
+pub record Binomials (n : ℕ) (r : List ℕ) : Type 0 where
   pub places : length r ≡ workingPlaces
-  pub count : (j : ℕ) → j ≤ n → getD r j 0 ≡ choose n j
+  pub coefficient : (j : ℕ) → j ≤ n → getD r j 0 ≡ choose n j
