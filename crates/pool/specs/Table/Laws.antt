@@ -16,7 +16,7 @@ use Rattle.steps.specs.Exponents.{is-entry, is-chance, is-loss, Ranged}
 use Rattle.steps.specs.Loss.Laws.{high-to-two}
 use Rattle.steps.specs.Pool.{keptDefaults, keptPoolTail, keptPoolLoss, poolLoss, PoolNumber, of-rows, of-chances, of-tails, of-losses}
 use Rattle.steps.specs.Pool.Theorems.{enclosure, exponents, printed}
-use Rattle.rows.specs.Working.{Entries}
+use Rattle.rows.specs.Working.{Entries, InRange}
 use Rattle.rows.specs.Store.{Fillable}
 use Rattle.grounds.specs.Grounds.{PoolAccepted, TrancheAccepted}
 use Rattle.chances.specs.Chances.{ChancesReady, ChancesMade}
@@ -26,18 +26,19 @@ use Rattle.pool.specs.declared.Pool.{Pool}
 use Rattle.pool.specs.Stores.{Store, lengths, half}
 use Rattle.pool.specs.Table.{Ready, Answerable}
 
+accepted-range : {n p ρ : ℕ} → PoolAccepted n p ρ → InRange n p ρ
+accepted-range pool = record { assets = pool .assets .most; probability = pool .probability; correlation = pool .correlation }
+
 -- The two slices of a side are long enough for it.
 pub fillable : (side : Side) {pool : Pool} {s : Store} → Ready pool s
     → Fillable (pool .assets) (pool .probability) (pool .correlation) (half side s .significands) (half side s .exponents)
 unfolding half lengths
 fillable Low ready =
-    let pool = ready .accepted .pool in
     let places = ready .accepted .store in
-    record { range = record { assets = pool .assets .most; probability = pool .probability; correlation = pool .correlation }; significands = places .0; exponents = places .1 .1 .0 }
+    record { range = accepted-range (ready .accepted .pool); significands = places .0; exponents = places .1 .1 .0 }
 fillable High ready =
-    let pool = ready .accepted .pool in
     let places = ready .accepted .store in
-    record { range = record { assets = pool .assets .most; probability = pool .probability; correlation = pool .correlation }; significands = places .1 .0; exponents = places .1 .1 .1 .0 }
+    record { range = accepted-range (ready .accepted .pool); significands = places .1 .0; exponents = places .1 .1 .1 .0 }
 
 module _ (n p ρ : ℕ) (accepted : PoolAccepted n p ρ) where
   in-range : (side : Side) {x : Kept} → PoolNumber side n p ρ x → Ranged x
