@@ -23,8 +23,8 @@ accepted : firstGround (poolGrounds 3 1000 3000) ≡ 0
 unfolding firstGround poolGrounds assetsGround probabilityGround correlationGround largestPool whole
 accepted = refl
 
-abbrev units : List ℕ
-units = 79032 ∷ 14005 ∷ 4895 ∷ 2068 ∷ []
+abbrev columnOfThree : List ℕ
+columnOfThree = 79032 ∷ 14005 ∷ 4895 ∷ 2068 ∷ []
 
 abbrev tails : ℕ → ℕ
 tails = printedTail 3 (keptDefaults Low 3 1000 3000)
@@ -33,14 +33,14 @@ past : tails 4 ≡ 0
 unfolding defaults whole largestPool
 past = printed 3 1000 3000 (lit≤ tt) (lit≤ tt) (lit≤ tt) .past
 
-same : (k : ℕ) → k ≤ 3 → rowOf units k ≡ printedRow 3 (keptDefaults Low 3 1000 3000) k
+same : (k : ℕ) → k ≤ 3 → rowOf columnOfThree k ≡ printedRow 3 (keptDefaults Low 3 1000 3000) k
 same zero l = sym (cases .17)
 same (suc zero) l = sym (cases .18)
 same (suc (suc zero)) l = sym (cases .19)
 same (suc (suc (suc zero))) l = sym (cases .20)
 same (suc (suc (suc (suc k)))) l = absurd (omega arith)
 
-difference : (k : ℕ) → k ≤ 3 → rowOf units k + tails (suc k) ≡ tails k
+difference : (k : ℕ) → k ≤ 3 → rowOf columnOfThree k + tails (suc k) ≡ tails k
 difference zero l = ap (λ t. 79032 + t) (cases .22) ∙ sym (cases .21)
 difference (suc zero) l = ap (λ t. 14005 + t) (cases .23) ∙ sym (cases .22)
 difference (suc (suc zero)) l = ap (λ t. 4895 + t) (cases .24) ∙ sym (cases .23)
@@ -51,5 +51,5 @@ pub reply-of-three : {text : List ℕ} → AnswersInput (ascii "3 1000 3000\n") 
     → text ≡ ascii "defaults units tail\n0 79032 100000\n1 14005 20968\n2 4895 6963\n3 2068 2068\n"
 reply-of-three answers =
     answers .line 3 1000 3000 line-of-three .table accepted
-    ∙ sym (column-text 3 units (printedRow 3 (keptDefaults Low 3 1000 3000)) tails same difference past)
+    ∙ sym (column-text 3 columnOfThree (printedRow 3 (keptDefaults Low 3 1000 3000)) tails same difference past)
     ∙ table-of-three

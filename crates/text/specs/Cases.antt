@@ -10,7 +10,7 @@ use lib.ListN.{length, length-append}
 use Rattle.model.specs.Number.{sum, sumBetween}
 use Rattle.text.specs.Ascii.{ascii}
 use Rattle.text.specs.Line.{Decimal, Accepts}
-use Rattle.text.specs.Table.{digitsBySteps, decimal, field, line, lines, header, tableText, columnText}
+use Rattle.text.specs.Table.{digitsBySteps, decimal, fieldText, line, lines, header, tableText, columnText}
 use Rattle.text.specs.Table.Laws.{decimal-length, decimal-writes}
 
 some-digits : (number : ℕ) → 1 ≤ length (decimal number)
@@ -43,5 +43,5 @@ line-of-three = line-of-decimals 3 1000 3000 (lit< tt) (lit< tt) (lit< tt)
 
 pub table-of-three : columnText 3 (79032 ∷ 14005 ∷ 4895 ∷ 2068 ∷ [])
     ≡ ascii "defaults units tail\n0 79032 100000\n1 14005 20968\n2 4895 6963\n3 2068 2068\n"
-unfolding columnText tableText header lines line field decimal digitsBySteps ascii sum sumBetween
+unfolding columnText tableText header lines line fieldText decimal digitsBySteps ascii sum sumBetween
 table-of-three = refl

@@ -27,12 +27,12 @@ unfoldable pub decimal : ℕ → List ℕ
 decimal number = digitsBySteps (suc number) number
 
 -- A number and the byte that ends it.
-unfoldable pub field : (number end : ℕ) → List ℕ
-field number end = decimal number ++ end ∷ []
+unfoldable pub fieldText : (number end : ℕ) → List ℕ
+fieldText number end = decimal number ++ end ∷ []
 
 -- One line of the table: number of defaults, row in units, printed tail in units.
 unfoldable pub line : (defaults row tail : ℕ) → List ℕ
-line defaults row tail = field defaults (code " ") ++ field row (code " ") ++ field tail (code "\n")
+line defaults row tail = fieldText defaults (code " ") ++ fieldText row (code " ") ++ fieldText tail (code "\n")
 
 -- The first m lines, for 0 to m − 1 defaults.
 unfoldable pub lines : (m : ℕ) (rows tails : ℕ → ℕ) → List ℕ
@@ -59,7 +59,7 @@ columnText n units = tableText n (rowOf units) (tailOf n units)
 
 -- A refusal with a number, and one of the line itself.
 unfoldable pub refusedText : (number : ℕ) → List ℕ
-refusedText number = ascii "refused " ++ field number (code "\n")
+refusedText number = ascii "refused " ++ fieldText number (code "\n")
 
 unfoldable pub refusedLine : List ℕ
 refusedLine = ascii "refused line\n"

@@ -5,7 +5,7 @@ ghost use mathlib.Core.Path.{_≡_};
 ghost use mathlib.Core.List.{[], _∷_};
 ghost use lib.ListN.{length};
 ghost use Rattle.model.specs.Number.{sum};
-ghost use Rattle.text.specs.Table.{decimal, field, line, rowOf, columnText, refusedText, refusedLine, Writes};
+ghost use Rattle.text.specs.Table.{decimal, fieldText, line, rowOf, columnText, refusedText, refusedLine, Writes};
 ghost use Rattle.text.specs.Table.Stores.{Room, Puts};
 
 fn put_byte(text: &mut [u8], at: usize, byte: u8) -> usize
@@ -43,8 +43,8 @@ fn put_decimal(text: &mut [u8], at: usize, number: u32) -> usize
 
 // A number and the byte that ends it.
 fn put_field(text: &mut [u8], at: usize, number: u32, end: u8) -> usize
-    requires { ⌜ Room (field number end) at (now text) ⌝ }
-    ensures { λ r. ⌜ Puts (field number end) at (now (text .entry)) (now (text .exit)) r ⌝ }
+    requires { ⌜ Room (fieldText number end) at (now text) ⌝ }
+    ensures { λ r. ⌜ Puts (fieldText number end) at (now (text .entry)) (now (text .exit)) r ⌝ }
 {
     let next = put_decimal(text, at, number);
     put_byte(text, next, end)

@@ -22,10 +22,10 @@ choose-all zero = refl
 choose-all (suc n) = omega (arith, choose-all n, choose-past n (suc n) (lt-suc-self n))
 
 -- What every row starts as.
-abbrev ones : List ℕ
-ones = replicate 65 1
+abbrev allOnes : List ℕ
+allOnes = replicate 65 1
 
-pub binomials-none : Binomials 0 ones
+pub binomials-none : Binomials 0 allOnes
 unfolding choose workingPlaces largestPool
 binomials-none = record { places = refl; coefficient = λ j l. let first : j ≡ 0 = omega arith in rw first refl }
 
@@ -36,7 +36,7 @@ pub record BinomialsBelow (k j : ℕ) (next : List ℕ) : Type 0 where
   pub one : (i : ℕ) → j ≤ i → i ≤ suc k → getD next i 0 ≡ 1
 
 module _ {k : ℕ} (few : k < largestPool) where
-  pub binomials-first : BinomialsBelow k 1 ones
+  pub binomials-first : BinomialsBelow k 1 allOnes
   unfolding choose workingPlaces largestPool
   binomials-first = record {
     places = refl;

@@ -28,9 +28,9 @@ abbrev pub numbered : List Ground → Bool
 numbered [] = true
 numbered (g ∷ gs) = ltb 0 (g .number) && numbered gs
 
-both : (s t : Bool) → T (s && t) → T s × T t
-both true t h = (tt, h)
-both false t h = absurd h
+both-hold : (s t : Bool) → T (s && t) → T s × T t
+both-hold true t h = (tt, h)
+both-hold false t h = absurd h
 
 neither : (s t : Bool) → (s || t) ≡ false → (s ≡ false) × (t ≡ false)
 neither true t e = absurd (true≢false e)
@@ -53,7 +53,7 @@ pub first-of-two : (a b : List Ground) → T (numbered a) → firstGround (a ++ 
 unfolding firstGround
 first-of-two [] b h = refl
 first-of-two (g ∷ gs) b h =
-    let parts : T (ltb 0 (g .number)) × T (numbered gs) = both (ltb 0 (g .number)) (numbered gs) h in
+    let parts : T (ltb 0 (g .number)) × T (numbered gs) = both-hold (ltb 0 (g .number)) (numbered gs) h in
     step (g .applies) (firstGround gs) (firstGround b) (ltb→lt 0 (g .number) (parts .0)) (first-of-two gs b (parts .1))
   where
     step : {m x : ℕ} (t : Bool) (y z : ℕ) → 0 < m → x ≡ cond (eqb y 0) z y → cond t m x ≡ cond (eqb (cond t m y) 0) z (cond t m y)
@@ -84,7 +84,7 @@ none-applies : (gs : List Ground) → T (numbered gs) → firstGround gs ≡ 0 �
 unfolding firstGround
 none-applies [] h e = tt
 none-applies (g ∷ gs) h e =
-    let parts : T (ltb 0 (g .number)) × T (numbered gs) = both (ltb 0 (g .number)) (numbered gs) h in
+    let parts : T (ltb 0 (g .number)) × T (numbered gs) = both-hold (ltb 0 (g .number)) (numbered gs) h in
     let off : (g .applies ≡ false) × (firstGround gs ≡ 0) = step (g .applies) (ltb→lt 0 (g .number) (parts .0)) e in
     (off .0, none-applies gs (parts .1) (off .1))
   where

@@ -11,7 +11,7 @@ use native.Mathlib.Omega.{arith}
 use lib.ListN.{length, length-append}
 use Rattle.model.specs.Number.Laws.{between-first, between-none}
 use Rattle.text.specs.Line.{Digit, Digits, none, more, valueFrom}
-use Rattle.text.specs.Table.{digit, digitsBySteps, decimal, field, lines, rowOf, tailOf, tableText, columnText}
+use Rattle.text.specs.Table.{digit, digitsBySteps, decimal, fieldText, lines, rowOf, tailOf, tableText, columnText}
 
 enough : (steps steps′ number : ℕ) → number < steps → number < steps′ → digitsBySteps steps number ≡ digitsBySteps steps′ number
 unfolding digitsBySteps
@@ -42,8 +42,8 @@ decimal-length (suc d) number small =
           rw (decimal-more number (omega arith), length-append) (omega (arith, decimal-length d (number / 10) tenth))
     ]
 
-pub field-length : (d number end : ℕ) → number < 10 ^ suc d → length (field number end) ≤ suc (suc d)
-unfolding field
+pub field-length : (d number end : ℕ) → number < 10 ^ suc d → length (fieldText number end) ≤ suc (suc d)
+unfolding fieldText
 field-length d number end small = rw length-append (omega (arith, decimal-length d number small))
 
 -- Digits that write a number.

@@ -2,7 +2,7 @@
 -- Assumes nothing.
 use Prim.Native.Char.{code}
 use borrow.Author.Needs.{needs}
-use Rattle.text.specs.Table.{field, line}
+use Rattle.text.specs.Table.{fieldText, line}
 use Rattle.text.specs.Table.Stores.{room-first, room-second, puts-both}
 use Rattle.text.proofs.table.put_line.Statement.{statement}
 use Rattle.text.proofs.table.put_line.Tie as tie
@@ -11,13 +11,13 @@ put-field-requires : tie.Need-put-field-requires
 unfolding line
 put-field-requires c κs =
     let args = c .before .before .args in
-    room-first (field (args .row) (code " ")) (room-first (field (args .tail) (code "\n")) (c .before .before .pre))
+    room-first (fieldText (args .row) (code " ")) (room-first (fieldText (args .tail) (code "\n")) (c .before .before .pre))
 
 put-field-requires-2 : tie.Need-put-field-requires-2
 unfolding line
 put-field-requires-2 c κs =
     let start = c .before .before .before .before .before .before in
-    room-second (room-first (field (start .args .tail) (code "\n")) (start .pre)) (c .before .before .before .put-field .ensures)
+    room-second (room-first (fieldText (start .args .tail) (code "\n")) (start .pre)) (c .before .before .before .put-field .ensures)
 
 put-field-requires-3 : tie.Need-put-field-requires-3
 unfolding line
