@@ -1,0 +1,150 @@
+-- The buyer's demands, with their numbers, on what each call is given and what it leaves. Demands/Theorems.antt shows that the contract of each call implies
+-- its part.
+-- 1. Every input is answered or refused by one number, and a refused call leaves its slices as they were.
+-- 2. Two bounds that the rounding steps make lie round every exact value of the model.
+-- 3. The two are at most one part in 100,000 apart; the rows of a column add to exactly 100,000 units, and each is less than 1.5 units off.
+-- Assumes nothing.
+use Prim.Native.Nat.{ℕ, suc, _+_, _-_, _*_, _/_, _≤_, _<_}
+use mathlib.Core.Path.{_≡_}
+use mathlib.Core.Logic.{_⊎_}
+use mathlib.Core.Bool.{false}
+use mathlib.Core.List.{List}
+use lib.Dec.{lit<}
+use lib.IntN.{pos, negsuc}
+use lib.Signed.{_≤ℤ_}
+use lib.ListN.{length, getD}
+use lib.Ieee.{Float}
+use lib.Ieee.Exact.{HasValue}
+use Rattle.model.specs.Number.{sum}
+use Rattle.model.specs.Fraction.{Fraction, Same, AtMost, Less, integer, plus, times}
+use Rattle.model.specs.Chances.{chance, tail}
+use Rattle.model.specs.CorrelatedBinomial.{probability, defaults}
+use Rattle.kept.specs.declared.Kept.{Kept}
+use Rattle.kept.specs.declared.Side.{Side}
+use Rattle.kept.specs.declared.Side.the-variants.{Low, High}
+use Rattle.kept.specs.Rounding.{scaled, value, nought}
+use Rattle.steps.specs.Rows.{keptRow}
+use Rattle.steps.specs.Loss.{LossAnswer, untouched, faint, shown}
+use Rattle.steps.specs.Pool.{keptDefaults, keptPoolTail, keptPoolLoss, poolLoss, PoolNumber}
+use Rattle.grounds.specs.Grounds.{Ground, firstGround, fillGrounds, rowGrounds, columnGrounds, lossGrounds}
+use Rattle.pool.specs.declared.Pool.{Pool}
+use Rattle.pool.specs.declared.Tranche.{Tranche}
+use Rattle.pool.specs.Stores.{Store, lengths, half, numberAt}
+use Rattle.pool.specs.Answers.{LossReply, answered, refusalOf}
+pub mod Theorems
+
+-- ---- the demands
+
+-- Demand 1. The refusal is the number of the first ground that applies, of those that the call checks and in their order, or 0 where none applies and the call
+-- answers. A refused call leaves of the slices what it was given.
+pub record Demand1 {Slices : Type 0} (grounds : List Ground) (refusal : ℕ) (given left : Slices) : Type 0 where
+  pub number : refusal ≡ firstGround grounds
+  pub untouched : (refusal ≡ 0 → ⊥) → left ≡ given
+
+-- Demand 2: low ≤ exact ≤ high.
+pub record Demand2 (low high : Kept) (exact : Fraction) : Type 0 where
+  pub from-below : AtMost (value low) exact
+  pub from-above : AtMost exact (value high)
+
+-- Demand 3, of two bounds: 100,000 × (high − low) ≤ exact, so that an exact zero has zero for both.
+pub record Demand3 (low high : Kept) (exact : Fraction) : Type 0 where
+  pub apart : AtMost (times (integer 100000) (value high)) (plus exact (times (integer 100000) (value low)))
+  pub of-zero : exact .num ≡ 0 → (low ≡ nought) × (high ≡ nought)
+
+-- Demands 2 and 3 of two bounds.
+pub record BoundDemands (low high : Kept) (exact : Fraction) : Type 0 where
+  pub two : Demand2 low high exact
+  pub three : Demand3 low high exact
+
+-- 1.5
+unfoldable pub oneAndAHalf : Fraction
+oneAndAHalf = record { num = 3; den = 2; positive = lit< tt }
+
+-- Demand 3, of a column: rows 0 to n, as they stand in the slice, add to exactly 100,000, and row k is less than 1.5 from 100,000 times the exact chance of
+-- k defaults.
+pub record Demand3Column (n : ℕ) (exact : ℕ → Fraction) (units : List ℕ) : Type 0 where
+  pub total : sum (suc n) (λ k. getD units k 0) ≡ 100000
+  pub not-above : (k : ℕ) → k ≤ n → Less (integer (getD units k 0)) (plus (times (integer 100000) (exact k)) oneAndAHalf)
+  pub not-below : (k : ℕ) → k ≤ n → Less (times (integer 100000) (exact k)) (plus (integer (getD units k 0)) oneAndAHalf)
+
+-- ---- what calls leave
+
+-- The table that every accepted call works out. In the store, at place k(k+1)/2 + j, stand on either side the numbers that steps 1 to 3 make for entry j of
+-- row k, bounds of P(j,k). Steps 4 and 5 make bounds of the chances and of the tails. No number that the steps make has an exponent below −80,000 or above 100.
+pub record TableDemands (n p ρ : ℕ) (s : Store) : Type 0 where
+  pub made : (side : Side) (j k : ℕ) → j ≤ k → k ≤ n → numberAt (half side s) (k * (k + 1) / 2 + j) ≡ keptRow side p ρ k j
+  pub entries : (j k : ℕ) → j ≤ k → k ≤ n
+      → BoundDemands (numberAt (s .low) (k * (k + 1) / 2 + j)) (numberAt (s .high) (k * (k + 1) / 2 + j)) (probability p ρ j k)
+  pub chances : (j : ℕ) → j ≤ n → BoundDemands (keptDefaults Low n p ρ j) (keptDefaults High n p ρ j) (chance (defaults n p ρ) j)
+  pub tails : (k : ℕ) → BoundDemands (keptPoolTail Low n p ρ k) (keptPoolTail High n p ρ k) (tail (defaults n p ρ) k)
+  pub exponents : (side : Side) {x : Kept} → PoolNumber side n p ρ x → (negsuc 79999 ≤ℤ x .exponent) × (x .exponent ≤ℤ pos 100)
+
+-- 2^−800
+unfoldable pub edge : Fraction
+edge = scaled 1 (negsuc 799)
+
+-- An f64 has a fraction for its exact value.
+abbrev pub Exactly : Float → Fraction → Type 0
+Exactly x z = HasValue x false (z .num) (z .den)
+
+-- A faint loss: the low bound is below 2^−800 and the high one is not zero; the number is the greater of the high bound and 2^−800.
+pub record FaintDemands (low high : Kept) (number : Float) : Type 0 where
+  pub low-below : Less (value low) edge
+  pub high-not-zero : high ≡ nought → ⊥
+  pub greater : Fraction
+  pub number-is : Exactly number greater
+  pub from-high : AtMost (value high) greater
+  pub from-edge : AtMost edge greater
+  pub either : Same greater (value high) ⊎ Same greater edge
+
+-- A shown loss: the low bound is not below 2^−800; the numbers are the two bounds.
+pub record ShownDemands (low high : Kept) (lower upper : Float) : Type 0 where
+  pub low-not-below : AtMost edge (value low)
+  pub lower-is : Exactly lower (value low)
+  pub upper-is : Exactly upper (value high)
+
+-- What is answered, from the two bounds of step 6. Those of an untouched loss are zero.
+abbrev pub AnswerDemands : (low high : Kept) → LossAnswer → Type 0
+AnswerDemands low high untouched = (low ≡ nought) × (high ≡ nought)
+AnswerDemands low high (faint number) = FaintDemands low high number
+AnswerDemands low high (shown lower upper) = ShownDemands low high lower upper
+
+-- An answer, not a refusal, with the two bounds of step 6 and the exact loss.
+pub record ReplyDemands (low high : Kept) (exact : Fraction) (reply : LossReply) : Type 0 where
+  pub bounds : BoundDemands low high exact
+  pub loss : LossAnswer
+  pub reply-is : reply ≡ answered loss
+  pub answer : AnswerDemands low high loss
+
+-- ---- the calls
+
+pub record FillDemands (pool : Pool) (before after : Store) (refusal : ℕ) : Type 0 where
+  pub one : Demand1 (fillGrounds (pool .assets) (pool .probability) (pool .correlation) (lengths before)) refusal before after
+  pub table : refusal ≡ 0 → TableDemands (pool .assets) (pool .probability) (pool .correlation) after
+
+-- The slice is lent to be read, so that no call can write to it. Row k of a filled store has the significands of its bounds.
+pub record RowDemands (n k : ℕ) (significands part : List ℕ) (refusal : ℕ) : Type 0 where
+  pub number : refusal ≡ firstGround (rowGrounds n k (length significands))
+  pub refused : (refusal ≡ 0 → ⊥) → length part ≡ 0
+  pub entries : refusal ≡ 0 → length part ≡ k + 1
+  pub entry : refusal ≡ 0 → (j : ℕ) → j ≤ k → getD part j 0 ≡ getD significands (k * (k + 1) / 2 + j) 0
+  pub of-filled : refusal ≡ 0 → (m p ρ : ℕ) (s : Store) → TableDemands m p ρ s → n ≤ m → (side : Side) → significands ≡ half side s .significands
+      → (j : ℕ) → j ≤ k → getD part j 0 ≡ keptRow side p ρ k j .significand
+
+pub record ColumnDemands (pool : Pool) (before after : Store) (units units′ : List ℕ) (refusal : ℕ) : Type 0 where
+  pub one : Demand1 {Slices = Store × List ℕ} (columnGrounds (pool .assets) (pool .probability) (pool .correlation) (lengths before) (length units)) refusal
+      (before, units) (after, units′)
+  pub table : refusal ≡ 0 → TableDemands (pool .assets) (pool .probability) (pool .correlation) after
+  pub column : refusal ≡ 0 → Demand3Column (pool .assets) (chance (defaults (pool .assets) (pool .probability) (pool .correlation))) units′
+
+pub record LossDemands (pool : Pool) (tranche : Tranche) (before after : Store) (reply : LossReply) : Type 0 where
+  pub one : Demand1
+      (lossGrounds (pool .assets) (pool .probability) (pool .correlation) (pool .recovery) (tranche .lower) (tranche .upper) (lengths before))
+      (refusalOf reply) before after
+  pub table : refusalOf reply ≡ 0 → TableDemands (pool .assets) (pool .probability) (pool .correlation) after
+  -- What step 6 divides by is above zero.
+  pub wide : refusalOf reply ≡ 0 → 0 < (tranche .upper - tranche .lower) * pool .assets
+  pub loss : refusalOf reply ≡ 0 → (wide : 0 < (tranche .upper - tranche .lower) * pool .assets) → ReplyDemands
+      (keptPoolLoss Low (pool .assets) (pool .probability) (pool .correlation) (pool .recovery) (tranche .lower) (tranche .upper) wide)
+      (keptPoolLoss High (pool .assets) (pool .probability) (pool .correlation) (pool .recovery) (tranche .lower) (tranche .upper) wide)
+      (poolLoss (pool .assets) (pool .probability) (pool .correlation) (pool .recovery) (tranche .lower) (tranche .upper) wide) reply
