@@ -7,59 +7,16 @@ use pool::Answer;
 use pool::Loss;
 use pool::Pool;
 use pool::Tranche;
+use rows::PLACES;
 use vectors::bits;
 use vectors::magnitude;
 use vectors::operand;
 use vectors::write;
 use vectors::write_number;
-ghost use Prim.Native.Nat.{_≤_};
-ghost use Rattle.kept.specs.Rounding.{Operand};
+ghost use Prim.Native.Nat.{_≤_, _<_};
 
-// Enough for the rows of 36 assets.
-const PLACES: usize = 703;
-
-// The orders of 0 to n defaults among n assets.
-const TEN: [u32; 11] = [1, 10, 45, 120, 210, 252, 210, 120, 45, 10, 1];
-
-const THIRTEEN: [u32; 14] = [
-    1,
-    13,
-    78,
-    286,
-    715,
-    1287,
-    1716,
-    1716,
-    1287,
-    715,
-    286,
-    78,
-    13,
-    1,
-];
-
-// Table 2 does not print the chance that all 19 default.
-const NINETEEN: [u32; 19] = [
-    1,
-    19,
-    171,
-    969,
-    3876,
-    11628,
-    27132,
-    50388,
-    75582,
-    92378,
-    92378,
-    75582,
-    50388,
-    27132,
-    11628,
-    3876,
-    969,
-    171,
-    19,
-];
+// The places of a store for 36 assets.
+const STORE: usize = 703;
 
 // n / 2, a half rounded up.
 fn half(n: u64) -> u64 {
@@ -106,80 +63,39 @@ fn write_kept(x: Kept, digits: u32) {
     );
 }
 
-fn times(x: Kept, n: u32, side: Side) -> Kept
-    requires { ⌜ Operand x ⌝ }
+// The chances of 0 to n defaults on one side, at a default probability of 5 per cent.
+fn chances_of(n: u32, correlation: u32, side: Side) -> [Kept; PLACES]
+    requires { ⌜ 0 < n ⌝ ∗ ⌜ n ≤ 36 ⌝ ∗ ⌜ correlation ≤ 10000 ⌝ }
 {
-    let factor = Kept::from_integer(n as u64, side);
-    operand(factor.significand, factor.exponent).product(x, side)
+    let mut significands = [0u32; STORE];
+    let mut exponents = [0i32; STORE];
+    let row = rows::fill_side(n, 500, correlation, side, &mut significands, &mut exponents);
+    chances::chances(n, row, side)
 }
 
 // Up to four defaults two digits are printed, then three.
-fn write_chance(defaults: usize, low: Kept, high: Kept, orders: u32)
-    requires { ⌜ Operand low ⌝ ∗ ⌜ Operand high ⌝ }
+fn write_chances(low: [Kept; PLACES], high: [Kept; PLACES], count: usize)
+    requires { ⌜ count ≤ 65 ⌝ }
 {
-    write_number(defaults as u64);
-    let digits = if defaults < 5 { 2 } else { 3 };
-    write_kept(times(low, orders, Side::Low), digits);
-    write_kept(times(high, orders, Side::High), digits);
-    write(b"\n");
+    for j in 0..count {
+        let digits = if j < 5 { 2 } else { 3 };
+        write_number(j as u64);
+        write_kept(low[j], digits);
+        write_kept(high[j], digits);
+        write(b"\n");
+    }
 }
 
-fn entry(significands: &[u32], exponents: &[i32], at: usize) -> Kept
-    ensures { λ r. ⌜ Operand r ⌝ }
-{
-    if at < significands.len() {
-        if at < exponents.len() {
-            return operand(significands[at], exponents[at]);
-        }
-    }
-    operand(0, 0)
-}
-
-fn write_chances(
-    low_significands: &[u32],
-    high_significands: &[u32],
-    low_exponents: &[i32],
-    high_exponents: &[i32],
-    orders: &[u32],
-    row: usize,
-)
-    requires { ⌜ row ≤ 190 ⌝ }
-{
-    for j in 0..orders.len() {
-        write_chance(
-            j,
-            entry(low_significands, low_exponents, row + j),
-            entry(high_significands, high_exponents, row + j),
-            orders[j],
-        );
-    }
+fn plus(x: Kept, y: Kept, side: Side) -> Kept {
+    operand(x.significand, x.exponent).sum(operand(y.significand, y.exponent), side)
 }
 
 // The chance that more than half of ten assets default, added from ten down.
-fn tail_of_ten(significands: &[u32], exponents: &[i32], side: Side) -> Kept {
-    let mut total = operand(0, 0);
-    for i in 0..5 {
-        let j = 10 - i;
-        let chance = times(entry(significands, exponents, 55 + j), TEN[j], side);
-        let sum = total.sum(operand(chance.significand, chance.exponent), side);
-        total = operand(sum.significand, sum.exponent);
-    }
-    total
-}
-
-fn write_tail(
-    low_significands: &[u32],
-    high_significands: &[u32],
-    low_exponents: &[i32],
-    high_exponents: &[i32],
-) {
-    write(b"more than half");
-    write_kept(tail_of_ten(low_significands, low_exponents, Side::Low), 3);
-    write_kept(
-        tail_of_ten(high_significands, high_exponents, Side::High),
-        3,
-    );
-    write(b"\n");
+fn more_than_half(chances: [Kept; PLACES], side: Side) -> Kept {
+    let from_nine = plus(chances[10], chances[9], side);
+    let from_eight = plus(from_nine, chances[8], side);
+    let from_seven = plus(from_eight, chances[7], side);
+    plus(from_seven, chances[6], side)
 }
 
 fn significand_of(word: u64) -> u32 {
@@ -206,66 +122,52 @@ fn write_loss(answer: Answer) {
     write(b"\n");
 }
 
-fn write_heading(table: u64, pool: Pool) {
+fn write_heading(table: u64, assets: u32, correlation: u32) {
     write(b"table ");
     write_number(table);
     write(b" assets ");
-    write_number(pool.assets as u64);
+    write_number(assets as u64);
     write(b" correlation ");
-    write_number(pool.correlation as u64);
+    write_number(correlation as u64);
 }
 
-// The chances of a column of Table 1 or 2. The last row of the store begins at place `row`. Table 1 has the chance that more than
-// half default too.
-fn chances(table: u64, pool: Pool, orders: &[u32], row: usize)
-    requires { ⌜ row ≤ 190 ⌝ }
+// The first chances of a column of Table 1 or 2. Table 1 has the chance that more than half default too.
+fn column(table: u64, assets: u32, correlation: u32, count: usize)
+    requires { ⌜ 0 < assets ⌝ ∗ ⌜ assets ≤ 36 ⌝ ∗ ⌜ correlation ≤ 10000 ⌝ ∗ ⌜ count ≤ 65 ⌝ }
 {
-    let mut low_significands = [0u32; PLACES];
-    let mut high_significands = [0u32; PLACES];
-    let mut low_exponents = [0i32; PLACES];
-    let mut high_exponents = [0i32; PLACES];
-    pool::fill(
-        pool,
-        &mut low_significands,
-        &mut high_significands,
-        &mut low_exponents,
-        &mut high_exponents,
-    );
-    write_heading(table, pool);
+    let low = chances_of(assets, correlation, Side::Low);
+    let high = chances_of(assets, correlation, Side::High);
+    write_heading(table, assets, correlation);
     write(b"\n");
-    write_chances(
-        &low_significands,
-        &high_significands,
-        &low_exponents,
-        &high_exponents,
-        orders,
-        row,
-    );
+    write_chances(low, high, count);
     if table == 1 {
-        write_tail(
-            &low_significands,
-            &high_significands,
-            &low_exponents,
-            &high_exponents,
-        );
+        write(b"more than half");
+        write_kept(more_than_half(low, Side::Low), 3);
+        write_kept(more_than_half(high, Side::High), 3);
+        write(b"\n");
     }
 }
 
 // An expected loss of Table 4.
-fn loss(pool: Pool, lower: u32, upper: u32) {
-    let mut low_significands = [0u32; PLACES];
-    let mut high_significands = [0u32; PLACES];
-    let mut low_exponents = [0i32; PLACES];
-    let mut high_exponents = [0i32; PLACES];
+fn loss(assets: u32, probability: u32, correlation: u32, lower: u32, upper: u32) {
+    let mut low_significands = [0u32; STORE];
+    let mut high_significands = [0u32; STORE];
+    let mut low_exponents = [0i32; STORE];
+    let mut high_exponents = [0i32; STORE];
     let answer = pool::tranche_loss(
-        pool,
+        Pool {
+            assets,
+            probability,
+            correlation,
+            recovery: 3_000,
+        },
         Tranche { lower, upper },
         &mut low_significands,
         &mut high_significands,
         &mut low_exponents,
         &mut high_exponents,
     );
-    write_heading(4, pool);
+    write_heading(4, assets, correlation);
     write(b" tranche ");
     write_number(lower as u64);
     write(b" ");
@@ -273,29 +175,20 @@ fn loss(pool: Pool, lower: u32, upper: u32) {
     write_loss(answer);
 }
 
-// The recovery is that of Table 4.
-fn pool_of(assets: u32, probability: u32, correlation: u32) -> Pool {
-    Pool {
-        assets,
-        probability,
-        correlation,
-        recovery: 3_000,
-    }
-}
-
 fn main() {
-    chances(1, pool_of(10, 500, 0), &TEN, 55);
-    chances(1, pool_of(10, 500, 250), &TEN, 55);
-    chances(1, pool_of(10, 500, 500), &TEN, 55);
-    chances(2, pool_of(10, 500, 0), &TEN, 55);
-    chances(2, pool_of(13, 500, 250), &THIRTEEN, 91);
-    chances(2, pool_of(19, 500, 500), &NINETEEN, 190);
-    loss(pool_of(13, 500, 250), 2_100, 10_000);
-    loss(pool_of(13, 500, 250), 1_500, 2_100);
-    loss(pool_of(19, 500, 500), 2_100, 10_000);
-    loss(pool_of(19, 500, 500), 1_500, 2_100);
-    loss(pool_of(15, 1_000, 625), 4_050, 10_000);
-    loss(pool_of(15, 1_000, 625), 1_750, 4_050);
-    loss(pool_of(36, 1_000, 1_000), 4_050, 10_000);
-    loss(pool_of(36, 1_000, 1_000), 1_750, 4_050);
+    column(1, 10, 0, 11);
+    column(1, 10, 250, 11);
+    column(1, 10, 500, 11);
+    column(2, 10, 0, 11);
+    column(2, 13, 250, 14);
+    // Table 2 does not print the chance that all 19 default.
+    column(2, 19, 500, 19);
+    loss(13, 500, 250, 2_100, 10_000);
+    loss(13, 500, 250, 1_500, 2_100);
+    loss(19, 500, 500, 2_100, 10_000);
+    loss(19, 500, 500, 1_500, 2_100);
+    loss(15, 1_000, 625, 4_050, 10_000);
+    loss(15, 1_000, 625, 1_750, 4_050);
+    loss(36, 1_000, 1_000, 4_050, 10_000);
+    loss(36, 1_000, 1_000, 1_750, 4_050);
 }
