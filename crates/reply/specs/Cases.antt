@@ -1,10 +1,11 @@
--- The answer to the line of the pool n = 3, p = 1000, ρ = 3000, byte for byte.
+-- The answer to the line of the pool n = 3, p = 1000, ρ = 3000, to that of a pool with no asset, and to no line, byte for byte.
 -- Assumes nothing.
 use Prim.Native.Nat.{ℕ, zero, suc, _+_, _≤_}
 use mathlib.Core.Path.{_≡_, refl, sym, ap, _∙_}
 use mathlib.Core.List.{List, [], _∷_}
 use native.Mathlib.Omega.{arith}
-use lib.Dec.{lit≤}
+use lib.Dec.{lit≤, lit<}
+use lib.ListN.{length, length-append}
 use Rattle.model.specs.Fraction.{whole}
 use Rattle.model.specs.CorrelatedBinomial.{defaults}
 use Rattle.kept.specs.declared.Side.the-variants.{Low}
@@ -14,8 +15,9 @@ use Rattle.steps.specs.Pool.{largestPool, keptDefaults}
 use Rattle.steps.specs.Pool.Theorems.{printed}
 use Rattle.grounds.specs.Grounds.{firstGround, poolGrounds, assetsGround, probabilityGround, correlationGround}
 use Rattle.text.specs.Ascii.{ascii}
-use Rattle.text.specs.Cases.{line-of-three, table-of-three}
-use Rattle.text.specs.Table.{rowOf}
+use Rattle.text.specs.Cases.{line-of-decimals, line-of-three, table-of-three}
+use Rattle.text.specs.Line.{Accepts}
+use Rattle.text.specs.Table.{digitsBySteps, decimal, fieldText, rowOf, refusedText, refusedLine}
 use Rattle.text.specs.Table.Laws.{column-text}
 use Rattle.reply.specs.Reply.{AnswersInput}
 
@@ -53,3 +55,21 @@ reply-of-three answers =
     answers .line 3 1000 3000 line-of-three .table accepted
     ∙ sym (column-text 3 columnOfThree (printedRow 3 (keptDefaults Low 3 1000 3000)) tails same difference past)
     ∙ table-of-three
+
+-- A pool with no asset is refused by ground 1.
+refusal : firstGround (poolGrounds 0 1000 3000) ≡ 1
+unfolding firstGround poolGrounds assetsGround probabilityGround correlationGround largestPool whole
+refusal = refl
+
+line-of-none : Accepts (ascii "0 1000 3000\n") 0 1000 3000
+unfolding decimal digitsBySteps ascii
+line-of-none = line-of-decimals 0 1000 3000 (lit< tt) (lit< tt) (lit< tt)
+
+pub reply-of-none : {text : List ℕ} → AnswersInput (ascii "0 1000 3000\n") text → text ≡ ascii "refused 1\n"
+unfolding refusedText fieldText decimal digitsBySteps ascii
+reply-of-none answers = answers .line 0 1000 3000 line-of-none .refused (λ none. omega (arith, refusal)) ∙ ap refusedText refusal
+
+-- A number alone is no line.
+pub reply-of-number : {text : List ℕ} → AnswersInput (ascii "3\n") text → text ≡ ascii "refused line\n"
+unfolding refusedLine ascii
+reply-of-number answers = answers .no-line (λ n p ρ line. omega (arith, simp length-append at (ap length (line .line))))

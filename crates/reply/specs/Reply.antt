@@ -24,6 +24,10 @@ pub record AnswersInput (input text : List ℕ) : Type 0 where
   pub no-line : ((n p ρ : ℕ) → Accepts input n p ρ → ⊥) → text ≡ refusedLine
   pub line : (n p ρ : ℕ) → Accepts input n p ρ → AnswersPool n p ρ text
 
+-- The text that answers every input of which a buffer, filled as far as the input goes, holds `count` bytes: all of the input, or as much as the buffer has room for.
+pub record AnswersStart (buffer : List ℕ) (count : ℕ) (text : List ℕ) : Type 0 where
+  pub every : (input : List ℕ) → take (length buffer) input ≡ take count buffer → AnswersInput input text
+
 -- The first bytes of a reply, as many as its length says, answer; those behind them are free. `count` follows from `within`; with both, a caller takes that
 -- part of the text without a proof of its own.
 pub record Carries (Answers : List ℕ → Type 0) (reply : Reply) : Type 0 where

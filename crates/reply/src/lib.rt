@@ -2,13 +2,16 @@
 use pool::Pool;
 use rows::PLACES;
 use text::line::Line;
-ghost use Rattle.reply.specs.Reply.{Carries, AnswersPool, AnswersInput};
+ghost use Rattle.reply.specs.Reply.{Carries, AnswersPool, AnswersInput, AnswersStart};
 
 // The places of the largest pool's store: 2,145, the entries of its 65 rows.
 const STORE: usize = PLACES * (PLACES + 1) / 2;
 
 // The bytes of the longest text: 1,125, a header of 20 and 65 lines of at most 17.
 const TEXT: usize = 20 + PLACES * 17;
+
+// How many bytes of an input are read. A line has at most 18, so that one byte more decides.
+pub const START: usize = 64;
 
 // A text of the first `length` bytes.
 pub struct Reply {
@@ -59,4 +62,14 @@ pub fn reply_to(input: &[u8]) -> Reply
             Reply { text, length }
         }
     }
+}
+
+// The answer to every input that starts with these bytes: as many as the count says, where it has no more, or else all of them.
+pub fn reply_to_start(start: [u8; START], count: usize) -> Reply
+    ensures { λ r. ⌜ Carries (AnswersStart start count) r ⌝ }
+{
+    if count < START {
+        return reply_to(&start[..count]);
+    }
+    reply_to(&start)
 }

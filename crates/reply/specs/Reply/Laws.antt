@@ -21,7 +21,7 @@ use Rattle.text.specs.Line.Laws.{one-line}
 use Rattle.text.specs.Table.{columnText, refusedText, refusedLine, Writes}
 use Rattle.text.specs.Table.Laws.{column-text}
 use Rattle.reply.specs.declared.Reply.{Reply}
-use Rattle.reply.specs.Reply.{AnswersPool, AnswersInput, Carries}
+use Rattle.reply.specs.Reply.{AnswersPool, AnswersInput, AnswersStart, Carries}
 
 -- A reply carries the text that was written into it.
 pub carried : {Answers : List ℕ → Type 0} {text before : List ℕ} {reply : Reply} → Writes text before (reply .text) (reply .length) → Answers text → Carries Answers reply
@@ -76,3 +76,12 @@ start-answers m input text enough answers =
         line = λ n p ρ line. absurd (omega (arith, input-length line));
       }
     ]
+
+-- What answers the bytes that a buffer of more than 18 holds answers every input that starts with them.
+pub buffer-answers : {buffer part : List ℕ} {count : ℕ} {reply : Reply} → part ≡ take count buffer → 18 < length buffer → Carries (AnswersInput part) reply
+    → Carries (AnswersStart buffer count) reply
+buffer-answers {buffer} is enough carries = record {
+  within = carries .within;
+  count = carries .count;
+  answers = record { every = λ input same. start-answers (length buffer) input _ enough (rw (same, ← is) (carries .answers)) };
+}

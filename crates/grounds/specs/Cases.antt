@@ -1,0 +1,54 @@
+-- The grounds by their numbers: which each call checks, in order, and for each ground inputs to which it alone applies.
+-- Assumes nothing.
+use Prim.Native.Nat.{ℕ, _+_, _*_, _/_}
+use mathlib.Core.Path.{_≡_, refl}
+use mathlib.Core.Bool.{cond}
+use mathlib.Core.List.{List, [], _∷_, _++_}
+use Rattle.model.specs.Fraction.{whole}
+use Rattle.steps.specs.Pool.{largestPool}
+use Rattle.grounds.specs.Grounds.{Ground, storePlaces, someShorter, assetsGround, probabilityGround, correlationGround, recoveryGround, upperGround}
+use Rattle.grounds.specs.Grounds.{attachmentsGround, storeGround, columnGround, rowGround, poolGrounds, trancheGrounds}
+use Rattle.grounds.specs.Grounds.{fillGrounds, rowGrounds, columnGrounds, lossGrounds}
+
+abbrev numbers : List Ground → List ℕ
+numbers [] = []
+numbers (g ∷ gs) = g .number ∷ numbers gs
+
+pub orders : (n p ρ R A B k units : ℕ) (lengths : List ℕ)
+    → (numbers (fillGrounds n p ρ lengths) ≡ 1 ∷ 2 ∷ 3 ∷ 7 ∷ [])
+    × (numbers (rowGrounds n k units) ≡ 1 ∷ 7 ∷ 9 ∷ [])
+    × (numbers (columnGrounds n p ρ lengths units) ≡ 1 ∷ 2 ∷ 3 ∷ 7 ∷ 8 ∷ [])
+    × (numbers (lossGrounds n p ρ R A B lengths) ≡ 1 ∷ 2 ∷ 3 ∷ 4 ∷ 5 ∷ 6 ∷ 7 ∷ [])
+unfolding fillGrounds rowGrounds columnGrounds lossGrounds poolGrounds trancheGrounds assetsGround probabilityGround correlationGround recoveryGround upperGround attachmentsGround storeGround columnGround rowGround
+orders n p ρ R A B k units lengths = (refl, refl, refl, refl)
+
+-- The numbers of the grounds that apply, of all nine.
+abbrev applying : List Ground → List ℕ
+applying [] = []
+applying (g ∷ gs) = cond (g .applies) (g .number ∷ applying gs) (applying gs)
+
+abbrev refusing : (n p ρ R A B : ℕ) (lengths : List ℕ) (units k : ℕ) → List ℕ
+refusing n p ρ R A B lengths units k =
+    applying (assetsGround n ∷ probabilityGround p ∷ correlationGround ρ ∷ recoveryGround R ∷ upperGround B ∷ attachmentsGround A B
+    ∷ storeGround n lengths ∷ columnGround n units ∷ rowGround n k ∷ [])
+
+-- Four slices, the last with a length of its own.
+abbrev slices : (length last : ℕ) → List ℕ
+slices length last = length ∷ length ∷ length ∷ last ∷ []
+
+-- At the edge of every ground none applies, and one past it each alone.
+pub table :
+    (refusing 1 0 0 0 0 1 (slices 3 3) 2 1 ≡ [])
+    × (refusing 64 10000 10000 10000 9999 10000 (slices 2145 2145) 65 64 ≡ [])
+    × (refusing 0 0 0 0 0 1 (slices 3 3) 2 0 ≡ 1 ∷ [])
+    × (refusing 65 10000 10000 10000 9999 10000 (slices 2211 2211) 66 64 ≡ 1 ∷ [])
+    × (refusing 64 10001 10000 10000 9999 10000 (slices 2145 2145) 65 64 ≡ 2 ∷ [])
+    × (refusing 64 10000 10001 10000 9999 10000 (slices 2145 2145) 65 64 ≡ 3 ∷ [])
+    × (refusing 64 10000 10000 10001 9999 10000 (slices 2145 2145) 65 64 ≡ 4 ∷ [])
+    × (refusing 64 10000 10000 10000 9999 10001 (slices 2145 2145) 65 64 ≡ 5 ∷ [])
+    × (refusing 64 10000 10000 10000 10000 10000 (slices 2145 2145) 65 64 ≡ 6 ∷ [])
+    × (refusing 64 10000 10000 10000 9999 10000 (slices 2145 2144) 65 64 ≡ 7 ∷ [])
+    × (refusing 64 10000 10000 10000 9999 10000 (slices 2145 2145) 64 64 ≡ 8 ∷ [])
+    × (refusing 64 10000 10000 10000 9999 10000 (slices 2145 2145) 65 65 ≡ 9 ∷ [])
+unfolding assetsGround probabilityGround correlationGround recoveryGround upperGround attachmentsGround storeGround columnGround rowGround storePlaces someShorter largestPool whole
+table = (refl, refl, refl, refl, refl, refl, refl, refl, refl, refl, refl, refl)
