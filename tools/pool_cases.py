@@ -95,7 +95,44 @@ def losses():
     loss_over(OTHERS[0], 3, 1000, 3000, 4000, 3000, 3000)
 
 
+def digits():
+    """Pools whose last digits depend on how steps 4 and 5 round."""
+    # A tail added from k up would have another unit; in most, so would certainty less the other chances.
+    for pool in [
+        (5, 1900, 1500), (9, 5800, 4200), (10, 9500, 500), (12, 1150, 900), (16, 6500, 3600), (20, 7200, 5300),
+        (28, 6600, 200), (35, 5900, 2200), (48, 6000, 3000), (53, 400, 1000), (62, 3000, 6000), (64, 6500, 2200),
+    ]:
+        column(*pool)
+    # The exact count of orders times the entry, rounded once, would give another unit, or change both bounds.
+    for pool in [(42, 1100, 1100), (47, 1900, 0), (54, 5600, 2000), (64, 5100, 200)]:
+        column(*pool)
+    for case in [
+        (37, 4000, 1000, 0, 3000, 6000), (39, 4500, 0, 6000, 300, 700), (41, 7000, 5000, 6000, 1000, 3000),
+        (43, 2500, 8000, 2500, 1000, 2000), (46, 5500, 1000, 3500, 1500, 1600), (48, 3000, 2000, 5000, 2000, 4000),
+        (50, 8000, 500, 4000, 1000, 3000), (53, 3500, 100, 5000, 0, 1000), (56, 6000, 0, 2500, 5000, 10000),
+        (59, 5000, 3000, 0, 0, 10000), (62, 2000, 3000, 3500, 0, 300), (64, 6500, 50, 4000, 2000, 4000),
+    ]:
+        tranche_loss(*case)
+
+
+def edges():
+    """Losses around 2^-800, of pools with probability 1 and correlation 0."""
+    for n, *tranche in [
+        # The low side is 2^-800, then a few kept numbers above it: shown.
+        (64, 2845, 6731, 9192), (64, 4583, 5096, 6959), (61, 8748, 1216, 7510),
+        # The low side is a few below it, then the high side a few above it: faint with the high bound.
+        (64, 4786, 4905, 6699), (62, 9056, 913, 7827), (61, 2928, 6950, 9417), (64, 3023, 6563, 8978),
+        # The high side is a few below it: faint with 2^-800.
+        (64, 8871, 1062, 1453), (61, 8816, 1157, 4244),
+        # The low side is between 2^-800 and 2^-799, then between 2^-801 and 2^-800.
+        (60, 5000, 4950, 5200), (64, 5000, 4700, 6000), (60, 5000, 4950, 5400), (64, 5000, 4700, 8000),
+    ]:
+        tranche_loss(n, 1, 0, *tranche)
+
+
 fills()
 rows()
 columns()
 losses()
+digits()
+edges()

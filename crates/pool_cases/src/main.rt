@@ -1,5 +1,5 @@
-// Runs each call at the edges of what it accepts, a line for each case. tools/pool_cases.py works the same lines out in exact
-// whole numbers.
+// Runs each call at the edges of what it accepts, and where a last digit decides, a line for each case. tools/pool_cases.py
+// works the same lines out in exact whole numbers.
 use pool::Pool;
 use pool::Tranche;
 use pool_runs::column;
@@ -313,10 +313,103 @@ fn losses() {
     losses_over();
 }
 
+// ---- the last digits
+
+// A tail added from k up would have another unit; in most, so would certainty less the other chances.
+fn tail_columns() {
+    column_ample(5, 1_900, 1_500);
+    column_ample(9, 5_800, 4_200);
+    column_ample(10, 9_500, 500);
+    column_ample(12, 1_150, 900);
+    column_ample(16, 6_500, 3_600);
+    column_ample(20, 7_200, 5_300);
+    column_ample(28, 6_600, 200);
+    column_ample(35, 5_900, 2_200);
+    column_ample(48, 6_000, 3_000);
+    column_ample(53, 400, 1_000);
+    column_ample(62, 3_000, 6_000);
+    column_ample(64, 6_500, 2_200);
+}
+
+// The exact count of orders times the entry, rounded once, would give another unit.
+fn count_columns() {
+    column_ample(42, 1_100, 1_100);
+    column_ample(47, 1_900, 0);
+    column_ample(54, 5_600, 2_000);
+    column_ample(64, 5_100, 200);
+}
+
+// As `count_columns`: both bounds would change.
+fn count_losses() {
+    loss_pool(37, 4_000, 1_000, 0, 3_000, 6_000);
+    loss_pool(39, 4_500, 0, 6_000, 300, 700);
+    loss_pool(41, 7_000, 5_000, 6_000, 1_000, 3_000);
+    loss_pool(43, 2_500, 8_000, 2_500, 1_000, 2_000);
+    loss_pool(46, 5_500, 1_000, 3_500, 1_500, 1_600);
+    loss_pool(48, 3_000, 2_000, 5_000, 2_000, 4_000);
+    loss_pool(50, 8_000, 500, 4_000, 1_000, 3_000);
+    loss_pool(53, 3_500, 100, 5_000, 0, 1_000);
+    loss_pool(56, 6_000, 0, 2_500, 5_000, 10_000);
+    loss_pool(59, 5_000, 3_000, 0, 0, 10_000);
+    loss_pool(62, 2_000, 3_000, 3_500, 0, 300);
+    loss_pool(64, 6_500, 50, 4_000, 2_000, 4_000);
+}
+
+fn digits() {
+    tail_columns();
+    count_columns();
+    count_losses();
+}
+
+// ---- losses around 2^−800
+
+// A tranche of a pool with probability 1 and correlation 0.
+fn least_loss(assets: u32, recovery: u32, lower: u32, upper: u32) {
+    loss_pool(assets, 1, 0, recovery, lower, upper);
+}
+
+// The low side is 2^−800, then a few kept numbers above it: shown.
+fn edge_shown() {
+    least_loss(64, 2_845, 6_731, 9_192);
+    least_loss(64, 4_583, 5_096, 6_959);
+    least_loss(61, 8_748, 1_216, 7_510);
+}
+
+// The low side is a few kept numbers below it, then the high side a few above it: faint with the high bound.
+fn edge_between() {
+    least_loss(64, 4_786, 4_905, 6_699);
+    least_loss(62, 9_056, 913, 7_827);
+    least_loss(61, 2_928, 6_950, 9_417);
+    least_loss(64, 3_023, 6_563, 8_978);
+}
+
+// The high side is a few kept numbers below it: faint with 2^−800.
+fn edge_faint() {
+    least_loss(64, 8_871, 1_062, 1_453);
+    least_loss(61, 8_816, 1_157, 4_244);
+}
+
+// The low side is between 2^−800 and 2^−799, then between 2^−801 and 2^−800.
+fn edge_doubles() {
+    least_loss(60, 5_000, 4_950, 5_200);
+    least_loss(64, 5_000, 4_700, 6_000);
+    least_loss(60, 5_000, 4_950, 5_400);
+    least_loss(64, 5_000, 4_700, 8_000);
+}
+
+fn edges() {
+    edge_shown();
+    edge_between();
+    edge_faint();
+    edge_doubles();
+}
+
 fn main() {
     fills();
     rows();
     filled_rows();
     columns();
     losses();
+    digits();
+    edges();
 }
