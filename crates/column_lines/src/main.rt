@@ -1,12 +1,36 @@
 // Prints the answers to good and bad inputs, each below a line with the number of its case. tools/column_lines.py works the
 // same lines out in exact fractions.
 use libc::STDOUT_FILENO;
+use reply::START;
+ghost use Prim.Native.Nat.{_≤_};
+ghost use lib.ListN.{length};
+
+// How many bytes of an input the program reads.
+fn bytes_read(input: &[u8]) -> usize
+    ensures { λ r. ⌜ r ≤ 64 ⌝ ∗ ⌜ r ≤ length (now (input .entry)) ⌝ }
+{
+    if input.len() < START {
+        input.len()
+    } else {
+        START
+    }
+}
+
+// These bytes, at the start of the program's buffer.
+fn start_of(input: &[u8]) -> [u8; START] {
+    let mut start = [0u8; START];
+    let count = bytes_read(input);
+    for i in 0..count {
+        start[i] = input[i];
+    }
+    start
+}
 
 fn show(number: u64, input: &[u8]) {
     io::write_all(STDOUT_FILENO, b"case ");
     io::print_decimal(STDOUT_FILENO, number);
     io::write_all(STDOUT_FILENO, b"\n");
-    let reply = reply::reply_to(input);
+    let reply = reply::reply_to_start(start_of(input), bytes_read(input));
     let text = reply.text;
     let length = reply.length;
     io::write_all(STDOUT_FILENO, &text[..length]);
@@ -84,6 +108,23 @@ fn long_inputs() {
     show(48, &line);
 }
 
+// A line of 18 bytes with something after it, up to and past what is read.
+fn longest_lines() {
+    show(49, b"00003 01000 03000\n\n");
+    show(
+        50,
+        b"00003 01000 03000\n000000000000000000000000000000000000000000000",
+    );
+    show(
+        51,
+        b"00003 01000 03000\n0000000000000000000000000000000000000000000000",
+    );
+    show(
+        52,
+        b"00003 01000 03000\n00000000000000000000000000000000000000000000000",
+    );
+}
+
 fn main() {
     tables();
     refusals();
@@ -91,4 +132,5 @@ fn main() {
     bad_spaces();
     bad_ends();
     long_inputs();
+    longest_lines();
 }
