@@ -75,9 +75,9 @@ within-meets : {x : Fraction} (y : Fraction) → Less x (plus y (tenths 15)) →
 unfolding tenths oneAndAHalf
 within-meets y less = less-at-most-trans less (plus-mono at-most-refl (record { cross = lit≤ tt }))
 
-column-holds : {n p ρ : ℕ} {units : List ℕ} → HoldsColumn n p ρ units → Demand3Column n (chance (defaults n p ρ)) units
+rows-meet : {n p ρ : ℕ} {units : List ℕ} → HoldsColumn n p ρ units → Demand3Column n (chance (defaults n p ρ)) units
 unfolding unitsOfCertainty exactUnits
-column-holds holds = record {
+rows-meet holds = record {
   total = holds .total;
   not-above = λ k l. within-meets _ (holds .near k l .not-above);
   not-below = λ k l. within-meets _ (holds .near k l .not-below);
@@ -98,7 +98,7 @@ column-meets {pool} {before} {after} {units} {units′} prints = record {
     untouched = λ some. rw (store-kept (prints .leaves) some, units-kept _ _ _ (prints .units-are) some) refl;
   };
   table = λ none. table-meets (prints .leaves .holds none) (prints .leaves .steps-hold none);
-  column = λ none. column-holds (prints .holds-column none);
+  column = λ none. rows-meet (prints .holds-column none);
 }
 
 -- The greater of a bound and 2^−800 is one of them.
