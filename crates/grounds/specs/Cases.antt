@@ -1,9 +1,9 @@
 -- The grounds by their numbers: which each call checks, in order, and for each ground inputs to which it alone applies.
 -- Assumes nothing.
-use Prim.Native.Nat.{ℕ, _+_, _*_, _/_}
+use Prim.Native.Nat.{ℕ}
 use mathlib.Core.Path.{_≡_, refl}
 use mathlib.Core.Bool.{cond}
-use mathlib.Core.List.{List, [], _∷_, _++_}
+use mathlib.Core.List.{List, [], _∷_}
 use Rattle.model.specs.Fraction.{whole}
 use Rattle.steps.specs.Pool.{largestPool}
 use Rattle.grounds.specs.Grounds.{Ground, storePlaces, someShorter, assetsGround, probabilityGround, correlationGround, recoveryGround, upperGround}

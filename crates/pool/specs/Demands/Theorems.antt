@@ -1,6 +1,6 @@
 -- The contract of each call implies what is demanded of it.
 -- Assumes nothing.
-use Prim.Native.Nat.{ℕ, zero, suc, _≤_}
+use Prim.Native.Nat.{ℕ, zero, suc}
 use mathlib.Core.Path.{_≡_, refl, sym, ap, _∙_}
 use mathlib.Core.Logic.{_⊎_, inl, inr}
 use mathlib.Core.List.{List}
@@ -15,17 +15,17 @@ use Rattle.kept.specs.declared.Kept.{Kept}
 use Rattle.kept.specs.declared.Side.the-variants.{Low, High}
 use Rattle.kept.specs.Rounding.{value}
 use Rattle.kept.specs.Binary64.{leastShown}
-use Rattle.steps.specs.Column.{unitsOfCertainty, exactUnits, tenths, Within}
+use Rattle.steps.specs.Column.{unitsOfCertainty, exactUnits, tenths}
 use Rattle.steps.specs.Enclosure.{Enclosed}
 use Rattle.steps.specs.Loss.{LossAnswer, untouched, faint, shown, lossAnswer, raisedToShown, Says}
 use Rattle.steps.specs.Loss.Laws.{raised-greater, least-shown-value}
 use Rattle.grounds.specs.Grounds.Laws.{row-accepted}
 use Rattle.pool.specs.declared.Pool.{Pool}
 use Rattle.pool.specs.declared.Tranche.{Tranche}
-use Rattle.pool.specs.Stores.{Store, numberAt, place, storeAfter, HoldsChances}
-use Rattle.pool.specs.Answers.{LossReply, refusalOf}
-use Rattle.pool.specs.Calls.{HoldsSteps, LeavesStore, Fills, fillRefusal, HandsRow, rowRefusal, columnRefusal, unitsAfter, HoldsColumn, Prints, lossRefusal, Wide, lossBound, exactLoss, HoldsLoss, Replies}
-use Rattle.pool.specs.Demands.{Demand1, BoundDemands, oneAndAHalf, Demand3Column, TableDemands, edge, AnswerDemands, ReplyDemands}
+use Rattle.pool.specs.Stores.{Store, numberAt, place, storeAfter}
+use Rattle.pool.specs.Answers.{LossReply}
+use Rattle.pool.specs.Calls.{LeavesStore, Fills, fillRefusal, HandsRow, rowRefusal, columnRefusal, unitsAfter, HoldsColumn, Prints, lossRefusal, Wide, lossBound, exactLoss, HoldsLoss, Replies}
+use Rattle.pool.specs.Demands.{BoundDemands, oneAndAHalf, Demand3Column, TableDemands, edge, AnswerDemands, ReplyDemands}
 use Rattle.pool.specs.Demands.{FillDemands, RowDemands, ColumnDemands, LossDemands}
 
 bounds-meet : {low high : Kept} {v : Fraction} → Enclosed 100000 low high v → BoundDemands low high v
@@ -34,15 +34,19 @@ bounds-meet enclosed = record {
   three = record { apart = enclosed .distance; of-zero = enclosed .of-zero };
 }
 
-table-meets : {n p ρ : ℕ} {s : Store} → HoldsChances n p ρ s → HoldsSteps n p ρ → TableDemands n p ρ s
+table-meets : {pool : Pool} {before after : Store} {refusal : ℕ} → LeavesStore pool before after refusal → refusal ≡ 0
+    → TableDemands (pool .assets) (pool .probability) (pool .correlation) after
 unfolding place
-table-meets holds steps = record {
-  made = holds .made;
-  entries = λ j k l m. bounds-meet (holds .enclosed j k l m);
-  chances = λ j l. bounds-meet (steps .enclosed .chances l);
-  tails = λ k. bounds-meet (steps .enclosed .tails k);
-  exponents = λ side number. let ranged = steps .ranged side number in (ranged .least, ranged .most);
-}
+table-meets leaves none =
+    let holds = leaves .holds none in
+    let steps = leaves .steps-hold none in
+    record {
+      made = holds .made;
+      entries = λ j k l m. bounds-meet (holds .enclosed j k l m);
+      chances = λ j l. bounds-meet (steps .enclosed .chances l);
+      tails = λ k. bounds-meet (steps .enclosed .tails k);
+      exponents = λ side number. let ranged = steps .ranged side number in (ranged .least, ranged .most);
+    }
 
 -- A refused call leaves the store as it was.
 store-kept : {pool : Pool} {before after : Store} {refusal : ℕ} → LeavesStore pool before after refusal → (refusal ≡ 0 → ⊥) → after ≡ before
@@ -54,13 +58,13 @@ pub fill-meets : {pool : Pool} {before after : Store} {refusal : ℕ} → Fills 
 unfolding fillRefusal
 fill-meets fills = record {
   one = record { number = fills .refusal-is; untouched = store-kept (fills .leaves) };
-  table = λ none. table-meets (fills .leaves .holds none) (fills .leaves .steps-hold none);
+  table = table-meets (fills .leaves);
 }
 
 pub row-meets : {n k : ℕ} {significands part : List ℕ} {refusal : ℕ} → HandsRow n k significands part → refusal ≡ rowRefusal n k significands
     → RowDemands n k significands part refusal
 unfolding rowRefusal place numberAt
-row-meets {n} {k} {significands} {part} hands is = record {
+row-meets {n} {k} {significands} hands is = record {
   number = is;
   refused = λ some. hands .refused-empty (λ none. some (is ∙ none));
   entries = λ none. hands .accepted-length (sym is ∙ none);
@@ -92,12 +96,12 @@ units-kept n p ρ {refusal = suc r} is some = is
 pub column-meets : {pool : Pool} {before after : Store} {units units′ : List ℕ} {refusal : ℕ} → Prints pool before after units units′ refusal
     → ColumnDemands pool before after units units′ refusal
 unfolding columnRefusal
-column-meets {pool} {before} {after} {units} {units′} prints = record {
+column-meets prints = record {
   one = record {
     number = prints .refusal-is;
     untouched = λ some. rw (store-kept (prints .leaves) some, units-kept _ _ _ (prints .units-are) some) refl;
   };
-  table = λ none. table-meets (prints .leaves .holds none) (prints .leaves .steps-hold none);
+  table = table-meets (prints .leaves);
   column = λ none. rows-meet (prints .holds-column none);
 }
 
@@ -140,9 +144,10 @@ pub loss-meets : {pool : Pool} {tranche : Tranche} {before after : Store} {reply
 unfolding lossRefusal Wide lossBound exactLoss
 loss-meets replies =
     let is = replies .refusal-is in
+    let leaves = rw (← is) at (replies .leaves) in
     record {
-      one = record { number = is; untouched = store-kept (rw (← is) at (replies .leaves)) };
-      table = λ none. table-meets (replies .leaves .holds (sym is ∙ none)) (replies .leaves .steps-hold (sym is ∙ none));
+      one = record { number = is; untouched = store-kept leaves };
+      table = table-meets leaves;
       wide = λ none. replies .wide (sym is ∙ none);
       loss = λ none wide. reply-meets (replies .holds-loss (sym is ∙ none) wide);
     }
