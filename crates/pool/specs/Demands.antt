@@ -8,11 +8,11 @@ use Prim.Native.Nat.{ℕ, suc, _+_, _-_, _*_, _/_, _≤_, _<_}
 use mathlib.Core.Path.{_≡_}
 use mathlib.Core.Logic.{_⊎_}
 use mathlib.Core.Bool.{false}
-use mathlib.Core.List.{List}
+use mathlib.Core.List.{List, [], _∷_}
 use lib.Dec.{lit<}
-use lib.IntN.{pos, negsuc}
+use lib.IntN.{ℤ, pos, negsuc}
 use lib.Signed.{_≤ℤ_}
-use lib.ListN.{length, getD}
+use lib.ListN.{length, getD, drop}
 use lib.Ieee.{Float}
 use lib.Ieee.Exact.{HasValue}
 use Rattle.model.specs.Number.{sum}
@@ -24,20 +24,21 @@ use Rattle.kept.specs.declared.Side.{Side}
 use Rattle.kept.specs.declared.Side.the-variants.{Low, High}
 use Rattle.kept.specs.Rounding.{scaled, value, nought}
 use Rattle.steps.specs.Rows.{keptRow}
-use Rattle.steps.specs.Loss.{LossAnswer, untouched, faint, shown}
 use Rattle.steps.specs.Pool.{keptDefaults, keptPoolTail, keptPoolLoss, poolLoss, PoolNumber}
 use Rattle.grounds.specs.Grounds.{Ground, firstGround, fillGrounds, rowGrounds, columnGrounds, lossGrounds}
 use Rattle.pool.specs.declared.Pool.{Pool}
 use Rattle.pool.specs.declared.Tranche.{Tranche}
-use Rattle.pool.specs.Stores.{Store, lengths, half, numberAt}
-use Rattle.pool.specs.Answers.{LossReply, answered, refusalOf}
+use Rattle.pool.specs.declared.Loss.{Loss}
+use Rattle.pool.specs.declared.Loss.the-variants.{Untouched, Faint, Shown}
+use Rattle.pool.specs.declared.Answer.{Answer}
+use Rattle.pool.specs.declared.Answer.the-variants.{Refused, Answered}
 pub mod Theorems
 
 -- ---- the demands
 
 -- Demand 1. The refusal is the number of the first ground that applies, of those that the call checks and in their order, or 0 where none applies and the call
 -- answers. A refused call leaves of the slices what it was given.
-pub record Demand1 {Slices : Type 0} (grounds : List Ground) (refusal : ℕ) (given left : Slices) : Type 0 where
+pub record Demand1 {Given : Type 0} (grounds : List Ground) (refusal : ℕ) (given left : Given) : Type 0 where
   pub number : refusal ≡ firstGround grounds
   pub untouched : (refusal ≡ 0 → ⊥) → left ≡ given
 
@@ -67,17 +68,43 @@ pub record Demand3Column (n : ℕ) (exact : ℕ → Fraction) (units : List ℕ)
   pub not-above : (k : ℕ) → k ≤ n → Less (integer (getD units k 0)) (plus (times (integer 100000) (exact k)) oneAndAHalf)
   pub not-below : (k : ℕ) → k ≤ n → Less (times (integer 100000) (exact k)) (plus (integer (getD units k 0)) oneAndAHalf)
 
--- ---- what calls leave
+-- ---- what calls are given and leave
+
+-- The four slices of a store, by the names under which the calls take them.
+pub record Slices : Type 0 where
+  pub lowSignificands : List ℕ
+  pub highSignificands : List ℕ
+  pub lowExponents : List ℤ
+  pub highExponents : List ℤ
+
+-- The significands of a side, and the kept number that stands at a place.
+abbrev pub significandsOn : Side → Slices → List ℕ
+significandsOn Low s = s .lowSignificands
+significandsOn High s = s .highSignificands
+
+abbrev pub numberOn : Side → Slices → ℕ → Kept
+numberOn Low s i = record { significand = getD (s .lowSignificands) i 0; exponent = getD (s .lowExponents) i (pos 0) }
+numberOn High s i = record { significand = getD (s .highSignificands) i 0; exponent = getD (s .highExponents) i (pos 0) }
+
+abbrev pub lengthsOf : Slices → List ℕ
+lengthsOf s = length (s .lowSignificands) ∷ length (s .highSignificands) ∷ length (s .lowExponents) ∷ length (s .highExponents) ∷ []
 
 -- The table that every accepted call works out. In the store, at place k(k+1)/2 + j, stand on either side the numbers that steps 1 to 3 make for entry j of
 -- row k, bounds of P(j,k). Steps 4 and 5 make bounds of the chances and of the tails. No number that the steps make has an exponent below −80,000 or above 100.
-pub record TableDemands (n p ρ : ℕ) (s : Store) : Type 0 where
-  pub made : (side : Side) (j k : ℕ) → j ≤ k → k ≤ n → numberAt (half side s) (k * (k + 1) / 2 + j) ≡ keptRow side p ρ k j
+pub record TableDemands (n p ρ : ℕ) (s : Slices) : Type 0 where
+  pub made : (side : Side) (j k : ℕ) → j ≤ k → k ≤ n → numberOn side s (k * (k + 1) / 2 + j) ≡ keptRow side p ρ k j
   pub entries : (j k : ℕ) → j ≤ k → k ≤ n
-      → BoundDemands (numberAt (s .low) (k * (k + 1) / 2 + j)) (numberAt (s .high) (k * (k + 1) / 2 + j)) (probability p ρ j k)
+      → BoundDemands (numberOn Low s (k * (k + 1) / 2 + j)) (numberOn High s (k * (k + 1) / 2 + j)) (probability p ρ j k)
   pub chances : (j : ℕ) → j ≤ n → BoundDemands (keptDefaults Low n p ρ j) (keptDefaults High n p ρ j) (chance (defaults n p ρ) j)
   pub tails : (k : ℕ) → BoundDemands (keptPoolTail Low n p ρ k) (keptPoolTail High n p ρ k) (tail (defaults n p ρ) k)
   pub exponents : (side : Side) {x : Kept} → PoolNumber side n p ρ x → (negsuc 79999 ≤ℤ x .exponent) × (x .exponent ≤ℤ pos 100)
+
+-- The places after (n+1)(n+2)/2 keep their content.
+pub record LaterKept (n : ℕ) (before after : Slices) : Type 0 where
+  pub lowSignificands : drop ((n + 1) * (n + 2) / 2) (after .lowSignificands) ≡ drop ((n + 1) * (n + 2) / 2) (before .lowSignificands)
+  pub highSignificands : drop ((n + 1) * (n + 2) / 2) (after .highSignificands) ≡ drop ((n + 1) * (n + 2) / 2) (before .highSignificands)
+  pub lowExponents : drop ((n + 1) * (n + 2) / 2) (after .lowExponents) ≡ drop ((n + 1) * (n + 2) / 2) (before .lowExponents)
+  pub highExponents : drop ((n + 1) * (n + 2) / 2) (after .highExponents) ≡ drop ((n + 1) * (n + 2) / 2) (before .highExponents)
 
 -- 2^−800
 unfoldable pub edge : Fraction
@@ -103,24 +130,30 @@ pub record ShownDemands (low high : Kept) (lower upper : Float) : Type 0 where
   pub lower-is : Exactly lower (value low)
   pub upper-is : Exactly upper (value high)
 
--- What is answered, from the two bounds of step 6. Those of an untouched loss are zero.
-abbrev pub AnswerDemands : (low high : Kept) → LossAnswer → Type 0
-AnswerDemands low high untouched = (low ≡ nought) × (high ≡ nought)
-AnswerDemands low high (faint number) = FaintDemands low high number
-AnswerDemands low high (shown lower upper) = ShownDemands low high lower upper
+-- A loss, from the two bounds of step 6. Those of an untouched loss are zero.
+abbrev pub LossDemands : (low high : Kept) → Loss → Type 0
+LossDemands low high Untouched = (low ≡ nought) × (high ≡ nought)
+LossDemands low high (Faint number) = FaintDemands low high number
+LossDemands low high (Shown bounds) = ShownDemands low high (bounds .low) (bounds .high)
 
--- An answer, not a refusal, with the two bounds of step 6 and the exact loss.
-pub record ReplyDemands (low high : Kept) (exact : Fraction) (reply : LossReply) : Type 0 where
+-- A loss is answered, with the two bounds of step 6 and the exact loss.
+pub record AnswerDemands (low high : Kept) (exact : Fraction) (answer : Answer) : Type 0 where
   pub bounds : BoundDemands low high exact
-  pub loss : LossAnswer
-  pub reply-is : reply ≡ answered loss
-  pub answer : AnswerDemands low high loss
+  pub loss : Loss
+  pub answer-is : answer ≡ Answered loss
+  pub says : LossDemands low high loss
+
+-- The number of the refusal that is answered, 0 for a loss.
+abbrev pub refusalIn : Answer → ℕ
+refusalIn (Refused number) = number
+refusalIn (Answered loss) = 0
 
 -- ---- the calls
 
-pub record FillDemands (pool : Pool) (before after : Store) (refusal : ℕ) : Type 0 where
-  pub one : Demand1 (fillGrounds (pool .assets) (pool .probability) (pool .correlation) (lengths before)) refusal before after
+pub record FillDemands (pool : Pool) (before after : Slices) (refusal : ℕ) : Type 0 where
+  pub one : Demand1 (fillGrounds (pool .assets) (pool .probability) (pool .correlation) (lengthsOf before)) refusal before after
   pub table : refusal ≡ 0 → TableDemands (pool .assets) (pool .probability) (pool .correlation) after
+  pub later : refusal ≡ 0 → LaterKept (pool .assets) before after
 
 -- The slice is lent to be read, so that no call can write to it. Row k of a filled store has the significands of its bounds.
 pub record RowDemands (n k : ℕ) (significands part : List ℕ) (refusal : ℕ) : Type 0 where
@@ -128,23 +161,26 @@ pub record RowDemands (n k : ℕ) (significands part : List ℕ) (refusal : ℕ)
   pub refused : (refusal ≡ 0 → ⊥) → length part ≡ 0
   pub entries : refusal ≡ 0 → length part ≡ k + 1
   pub entry : refusal ≡ 0 → (j : ℕ) → j ≤ k → getD part j 0 ≡ getD significands (k * (k + 1) / 2 + j) 0
-  pub of-filled : refusal ≡ 0 → (m p ρ : ℕ) (s : Store) → TableDemands m p ρ s → n ≤ m → (side : Side) → significands ≡ half side s .significands
+  pub of-filled : refusal ≡ 0 → (m p ρ : ℕ) (s : Slices) → TableDemands m p ρ s → n ≤ m → (side : Side) → significands ≡ significandsOn side s
       → (j : ℕ) → j ≤ k → getD part j 0 ≡ keptRow side p ρ k j .significand
 
-pub record ColumnDemands (pool : Pool) (before after : Store) (units units′ : List ℕ) (refusal : ℕ) : Type 0 where
-  pub one : Demand1 {Slices = Store × List ℕ} (columnGrounds (pool .assets) (pool .probability) (pool .correlation) (lengths before) (length units)) refusal
+pub record ColumnDemands (pool : Pool) (before after : Slices) (units units′ : List ℕ) (refusal : ℕ) : Type 0 where
+  pub one : Demand1 {Given = Slices × List ℕ} (columnGrounds (pool .assets) (pool .probability) (pool .correlation) (lengthsOf before) (length units)) refusal
       (before, units) (after, units′)
   pub table : refusal ≡ 0 → TableDemands (pool .assets) (pool .probability) (pool .correlation) after
+  pub later : refusal ≡ 0 → LaterKept (pool .assets) before after
   pub column : refusal ≡ 0 → Demand3Column (pool .assets) (chance (defaults (pool .assets) (pool .probability) (pool .correlation))) units′
+  pub later-rows : refusal ≡ 0 → drop (pool .assets + 1) units′ ≡ drop (pool .assets + 1) units
 
-pub record LossDemands (pool : Pool) (tranche : Tranche) (before after : Store) (reply : LossReply) : Type 0 where
+pub record TrancheDemands (pool : Pool) (tranche : Tranche) (before after : Slices) (answer : Answer) : Type 0 where
   pub one : Demand1
-      (lossGrounds (pool .assets) (pool .probability) (pool .correlation) (pool .recovery) (tranche .lower) (tranche .upper) (lengths before))
-      (refusalOf reply) before after
-  pub table : refusalOf reply ≡ 0 → TableDemands (pool .assets) (pool .probability) (pool .correlation) after
+      (lossGrounds (pool .assets) (pool .probability) (pool .correlation) (pool .recovery) (tranche .lower) (tranche .upper) (lengthsOf before))
+      (refusalIn answer) before after
+  pub table : refusalIn answer ≡ 0 → TableDemands (pool .assets) (pool .probability) (pool .correlation) after
+  pub later : refusalIn answer ≡ 0 → LaterKept (pool .assets) before after
   -- What step 6 divides by is above zero.
-  pub wide : refusalOf reply ≡ 0 → 0 < (tranche .upper - tranche .lower) * pool .assets
-  pub loss : refusalOf reply ≡ 0 → (wide : 0 < (tranche .upper - tranche .lower) * pool .assets) → ReplyDemands
+  pub wide : refusalIn answer ≡ 0 → 0 < (tranche .upper - tranche .lower) * pool .assets
+  pub loss : refusalIn answer ≡ 0 → (wide : 0 < (tranche .upper - tranche .lower) * pool .assets) → AnswerDemands
       (keptPoolLoss Low (pool .assets) (pool .probability) (pool .correlation) (pool .recovery) (tranche .lower) (tranche .upper) wide)
       (keptPoolLoss High (pool .assets) (pool .probability) (pool .correlation) (pool .recovery) (tranche .lower) (tranche .upper) wide)
-      (poolLoss (pool .assets) (pool .probability) (pool .correlation) (pool .recovery) (tranche .lower) (tranche .upper) wide) reply
+      (poolLoss (pool .assets) (pool .probability) (pool .correlation) (pool .recovery) (tranche .lower) (tranche .upper) wide) answer

@@ -1,32 +1,55 @@
 -- The contract of each call implies what is demanded of it.
 -- Assumes nothing.
-use Prim.Native.Nat.{ℕ, zero, suc}
+use Prim.Native.Nat.{ℕ, zero, suc, _+_, _*_, _/_, _≤_}
 use mathlib.Core.Path.{_≡_, refl, sym, ap, _∙_}
 use mathlib.Core.Logic.{_⊎_, inl, inr}
 use mathlib.Core.List.{List}
 use native.Mathlib.Omega.{arith}
 use lib.Dec.{lit≤}
-use lib.ListN.{length}
+use lib.ListN.{length, getD, drop}
+use lib.Seq.{drop-append-seam}
+use Rattle.model.specs.Number.{triangle}
+use Rattle.model.specs.Number.Laws.{triangle-closed}
 use Rattle.model.specs.Fraction.{Fraction, Same, Less, plus}
 use Rattle.model.specs.Fraction.Laws.{same-refl, at-most-refl, less-at-most-trans, plus-mono}
 use Rattle.model.specs.Chances.{chance}
 use Rattle.model.specs.CorrelatedBinomial.{defaults}
 use Rattle.kept.specs.declared.Kept.{Kept}
+use Rattle.kept.specs.declared.Side.{Side}
 use Rattle.kept.specs.declared.Side.the-variants.{Low, High}
 use Rattle.kept.specs.Rounding.{value}
 use Rattle.kept.specs.Binary64.{leastShown}
-use Rattle.steps.specs.Column.{unitsOfCertainty, exactUnits, tenths}
+use Rattle.steps.specs.Rows.{keptRow}
+use Rattle.steps.specs.Column.{unitsOfCertainty, exactUnits, tenths, printedRow}
 use Rattle.steps.specs.Enclosure.{Enclosed}
-use Rattle.steps.specs.Loss.{LossAnswer, untouched, faint, shown, lossAnswer, raisedToShown, Says}
+use Rattle.steps.specs.Loss.{raisedToShown, Says}
 use Rattle.steps.specs.Loss.Laws.{raised-greater, least-shown-value}
+use Rattle.steps.specs.Pool.{keptDefaults}
+use Rattle.rows.specs.Store.{tabulate, overwritten, storedSignificands, storedExponents}
+use Rattle.rows.specs.Store.Laws.{length-tabulate, stored-significands-length, stored-exponents-length}
 use Rattle.grounds.specs.Grounds.Laws.{row-accepted}
 use Rattle.pool.specs.declared.Pool.{Pool}
 use Rattle.pool.specs.declared.Tranche.{Tranche}
-use Rattle.pool.specs.Stores.{Store, numberAt, place, storeAfter}
-use Rattle.pool.specs.Answers.{LossReply}
+use Rattle.pool.specs.declared.Loss.{Loss}
+use Rattle.pool.specs.declared.Loss.the-variants.{Untouched, Faint, Shown}
+use Rattle.pool.specs.declared.Answer.{Answer}
+use Rattle.pool.specs.declared.Answer.the-variants.{Refused, Answered}
+use Rattle.pool.specs.Stores.{Store, lengths, half, numberAt, place, filledHalf, storeAfter}
+use Rattle.pool.specs.Answers.{lossOf, replyOf, refusalOf}
 use Rattle.pool.specs.Calls.{LeavesStore, Fills, fillRefusal, HandsRow, rowRefusal, columnRefusal, unitsAfter, HoldsColumn, Prints, lossRefusal, Wide, lossBound, exactLoss, HoldsLoss, Replies}
-use Rattle.pool.specs.Demands.{BoundDemands, oneAndAHalf, Demand3Column, TableDemands, edge, AnswerDemands, ReplyDemands}
-use Rattle.pool.specs.Demands.{FillDemands, RowDemands, ColumnDemands, LossDemands}
+use Rattle.pool.specs.Demands.{BoundDemands, oneAndAHalf, Demand3Column, Slices, significandsOn, numberOn, TableDemands, LaterKept, edge, LossDemands, AnswerDemands, refusalIn}
+use Rattle.pool.specs.Demands.{FillDemands, RowDemands, ColumnDemands, TrancheDemands}
+
+-- The four slices of a store.
+abbrev pub slices : Store → Slices
+slices s = record {
+  lowSignificands = s .low .significands;
+  highSignificands = s .high .significands;
+  lowExponents = s .low .exponents;
+  highExponents = s .high .exponents;
+}
+
+-- ---- the store
 
 bounds-meet : {low high : Kept} {v : Fraction} → Enclosed 100000 low high v → BoundDemands low high v
 bounds-meet enclosed = record {
@@ -34,45 +57,81 @@ bounds-meet enclosed = record {
   three = record { apart = enclosed .distance; of-zero = enclosed .of-zero };
 }
 
-table-meets : {pool : Pool} {before after : Store} {refusal : ℕ} → LeavesStore pool before after refusal → refusal ≡ 0
-    → TableDemands (pool .assets) (pool .probability) (pool .correlation) after
-unfolding place
-table-meets leaves none =
-    let holds = leaves .holds none in
-    let steps = leaves .steps-hold none in
-    record {
-      made = holds .made;
-      entries = λ j k l m. bounds-meet (holds .enclosed j k l m);
-      chances = λ j l. bounds-meet (steps .enclosed .chances l);
-      tails = λ k. bounds-meet (steps .enclosed .tails k);
-      exponents = λ side number. let ranged = steps .ranged side number in (ranged .least, ranged .most);
-    }
+later-kept : {A : Type 0} (new old : List A) {m : ℕ} → length new ≡ m → drop m (overwritten new old) ≡ drop m old
+unfolding overwritten
+later-kept new old is = rw (← is) (drop-append-seam new (drop (length new) old))
 
--- A refused call leaves the store as it was.
-store-kept : {pool : Pool} {before after : Store} {refusal : ℕ} → LeavesStore pool before after refusal → (refusal ≡ 0 → ⊥) → after ≡ before
-unfolding storeAfter
-store-kept {refusal = zero} leaves some = absurd (some refl)
-store-kept {refusal = suc r} leaves some = leaves .store-is
+module _ {pool : Pool} {before after : Store} {refusal : ℕ} (leaves : LeavesStore pool before after refusal) where
+  -- A refused call leaves the store as it was.
+  store-kept : (refusal ≡ 0 → ⊥) → after ≡ before
+  unfolding storeAfter
+  store-kept some = by-number refusal leaves some
+    where
+      by-number : (r : ℕ) → LeavesStore pool before after r → (r ≡ 0 → ⊥) → after ≡ before
+      by-number zero leaves some = absurd (some refl)
+      by-number (suc r) leaves some = leaves .store-is
 
-pub fill-meets : {pool : Pool} {before after : Store} {refusal : ℕ} → Fills pool before after refusal → FillDemands pool before after refusal
-unfolding fillRefusal
-fill-meets fills = record {
-  one = record { number = fills .refusal-is; untouched = store-kept (fills .leaves) };
-  table = table-meets (fills .leaves);
-}
+  module _ (none : refusal ≡ 0) where
+    made-on : (side : Side) (j k : ℕ) → j ≤ k → k ≤ pool .assets
+        → numberOn side (slices after) (k * (k + 1) / 2 + j) ≡ keptRow side (pool .probability) (pool .correlation) k j
+    unfolding half numberAt place
+    made-on Low = leaves .holds none .made Low
+    made-on High = leaves .holds none .made High
+
+    table-meets : TableDemands (pool .assets) (pool .probability) (pool .correlation) (slices after)
+    unfolding numberAt place
+    table-meets =
+        let steps = leaves .steps-hold none in
+        record {
+          made = made-on;
+          entries = λ j k l m. bounds-meet (leaves .holds none .enclosed j k l m);
+          chances = λ j l. bounds-meet (steps .enclosed .chances l);
+          tails = λ k. bounds-meet (steps .enclosed .tails k);
+          exponents = λ side number. let ranged = steps .ranged side number in (ranged .least, ranged .most);
+        }
+
+    later-meets : LaterKept (pool .assets) (slices before) (slices after)
+    unfolding storeAfter filledHalf triangle
+    later-meets =
+        let n = pool .assets in
+        let p = pool .probability in
+        let ρ = pool .correlation in
+        let is : after ≡ storeAfter n p ρ 0 before = rw none at (leaves .store-is) in
+        let places : triangle (suc n) ≡ (n + 1) * (n + 2) / 2 = omega (arith, triangle-closed (suc n)) in
+        rw is (record {
+          lowSignificands = later-kept (storedSignificands Low p ρ n) _ (stored-significands-length Low p ρ n ∙ places);
+          highSignificands = later-kept (storedSignificands High p ρ n) _ (stored-significands-length High p ρ n ∙ places);
+          lowExponents = later-kept (storedExponents Low p ρ n) _ (stored-exponents-length Low p ρ n ∙ places);
+          highExponents = later-kept (storedExponents High p ρ n) _ (stored-exponents-length High p ρ n ∙ places);
+        })
+
+pub fill-meets : {pool : Pool} {before after : Store} {refusal : ℕ} → Fills pool before after refusal → FillDemands pool (slices before) (slices after) refusal
+unfolding fillRefusal lengths
+fill-meets fills =
+    let leaves = fills .leaves in
+    record { one = record { number = fills .refusal-is; untouched = λ some. ap slices (store-kept leaves some) }; table = table-meets leaves; later = later-meets leaves }
+
+-- ---- the row
+
+significand-on : (side : Side) (s : Slices) (i : ℕ) → getD (significandsOn side s) i 0 ≡ numberOn side s i .significand
+significand-on Low s i = refl
+significand-on High s i = refl
 
 pub row-meets : {n k : ℕ} {significands part : List ℕ} {refusal : ℕ} → HandsRow n k significands part → refusal ≡ rowRefusal n k significands
     → RowDemands n k significands part refusal
-unfolding rowRefusal place numberAt
+unfolding rowRefusal place
 row-meets {n} {k} {significands} hands is = record {
   number = is;
   refused = λ some. hands .refused-empty (λ none. some (is ∙ none));
   entries = λ none. hands .accepted-length (sym is ∙ none);
   entry = λ none. hands .entries (sym is ∙ none);
   of-filled = λ none m p ρ s filled more side same j l.
-      let made = filled .made side j k l (omega (arith, row-accepted n k (length significands) (sym is ∙ none) .row)) in
-      hands .entries (sym is ∙ none) j l ∙ rw same (ap (λ x. x .significand) made);
+      let row : k ≤ n = row-accepted n k (length significands) (sym is ∙ none) .row in
+      hands .entries (sym is ∙ none) j l
+      ∙ rw same (significand-on side s (k * (k + 1) / 2 + j) ∙ ap (λ x. x .significand) (filled .made side j k l (omega arith)));
 }
+
+-- ---- the column
 
 -- Less than 1.5 units apart.
 within-meets : {x : Fraction} (y : Fraction) → Less x (plus y (tenths 15)) → Less x (plus y oneAndAHalf)
@@ -87,23 +146,38 @@ rows-meet holds = record {
   not-below = λ k l. within-meets _ (holds .near k l .not-below);
 }
 
--- A refused call leaves the rows as they were.
-units-kept : (n p ρ : ℕ) {refusal : ℕ} {units units′ : List ℕ} → units′ ≡ unitsAfter n p ρ refusal units → (refusal ≡ 0 → ⊥) → units′ ≡ units
-unfolding unitsAfter
-units-kept n p ρ {refusal = zero} is some = absurd (some refl)
-units-kept n p ρ {refusal = suc r} is some = is
+module _ (n p ρ : ℕ) (units : List ℕ) {units′ : List ℕ} where
+  -- A refused call leaves the rows as they were.
+  units-kept : {refusal : ℕ} → units′ ≡ unitsAfter n p ρ refusal units → (refusal ≡ 0 → ⊥) → units′ ≡ units
+  unfolding unitsAfter
+  units-kept {refusal = zero} is some = absurd (some refl)
+  units-kept {refusal = suc r} is some = is
+
+  -- An accepted one leaves what stands behind them.
+  later-rows : {refusal : ℕ} → units′ ≡ unitsAfter n p ρ refusal units → refusal ≡ 0 → drop (n + 1) units′ ≡ drop (n + 1) units
+  unfolding unitsAfter
+  later-rows is none =
+      let rows = tabulate (suc n) (printedRow n (keptDefaults Low n p ρ)) in
+      let whole : units′ ≡ overwritten rows units = rw none at is in
+      rw whole (later-kept rows units {m = n + 1} (rw length-tabulate (omega arith)))
 
 pub column-meets : {pool : Pool} {before after : Store} {units units′ : List ℕ} {refusal : ℕ} → Prints pool before after units units′ refusal
-    → ColumnDemands pool before after units units′ refusal
-unfolding columnRefusal
-column-meets prints = record {
-  one = record {
-    number = prints .refusal-is;
-    untouched = λ some. rw (store-kept (prints .leaves) some, units-kept _ _ _ (prints .units-are) some) refl;
-  };
-  table = table-meets (prints .leaves);
-  column = λ none. rows-meet (prints .holds-column none);
-}
+    → ColumnDemands pool (slices before) (slices after) units units′ refusal
+unfolding columnRefusal lengths
+column-meets prints =
+    let leaves = prints .leaves in
+    record {
+      one = record {
+        number = prints .refusal-is;
+        untouched = λ some. rw (store-kept leaves some, units-kept _ _ _ _ (prints .units-are) some) refl;
+      };
+      table = table-meets leaves;
+      later = later-meets leaves;
+      column = λ none. rows-meet (prints .holds-column none);
+      later-rows = later-rows _ _ _ _ (prints .units-are);
+    }
+
+-- ---- the loss
 
 -- The greater of a bound and 2^−800 is one of them.
 either-of : (x : Kept) → Same (value (raisedToShown x)) (value x) ⊎ Same (value (raisedToShown x)) leastShown
@@ -112,10 +186,10 @@ either-of x = elim (raised-greater x .2) [
   | inr is ↦ inr (rw is least-shown-value)
 ]
 
-answer-meets : (low high : Kept) (v : Fraction) (loss : LossAnswer) → Says 100000 low high v loss → AnswerDemands low high loss
-unfolding leastShown edge
-answer-meets low high v untouched says = (says .low-zero, says .high-zero)
-answer-meets low high v (faint number) says = record {
+loss-meets : (low high : Kept) (v : Fraction) (loss : Loss) → Says 100000 low high v (lossOf loss) → LossDemands low high loss
+unfolding lossOf leastShown edge
+loss-meets low high v Untouched says = (says .low-zero, says .high-zero)
+loss-meets low high v (Faint number) says = record {
   low-below = says .low-below;
   high-not-zero = says .high-not-zero;
   greater = value (raisedToShown high);
@@ -124,30 +198,36 @@ answer-meets low high v (faint number) says = record {
   from-edge = says .from-least;
   either = either-of high;
 }
-answer-meets low high v (shown lower upper) says = record { low-not-below = says .low-not-below; lower-is = says .lower-is .exact; upper-is = says .upper-is .exact }
+loss-meets low high v (Shown bounds) says =
+    record { low-not-below = says .low-not-below; lower-is = says .lower-is .exact; upper-is = says .upper-is .exact }
 
-reply-meets : {pool : Pool} {tranche : Tranche} {wide : Wide pool tranche} {reply : LossReply} → HoldsLoss pool tranche wide reply
-    → ReplyDemands (lossBound pool tranche Low wide) (lossBound pool tranche High wide) (exactLoss pool tranche wide) reply
-reply-meets {pool} {tranche} {wide} holds =
-    let low = lossBound pool tranche Low wide in
-    let high = lossBound pool tranche High wide in
-    let loss = lossAnswer low high in
-    record {
-      bounds = bounds-meet (holds .enclosed);
-      loss = loss;
-      reply-is = holds .answer-is;
-      answer = answer-meets low high (exactLoss pool tranche wide) loss (holds .says loss (holds .answer-is));
-    }
+module _ {pool : Pool} {tranche : Tranche} {wide : Wide pool tranche} where
+  answer-meets : (answer : Answer) → HoldsLoss pool tranche wide (replyOf answer)
+      → AnswerDemands (lossBound pool tranche Low wide) (lossBound pool tranche High wide) (exactLoss pool tranche wide) answer
+  unfolding replyOf
+  answer-meets (Refused number) holds = let never : _≡_ {A = ℕ} 0 1 = cc (holds .answer-is) in absurd (omega arith)
+  answer-meets (Answered loss) holds = record {
+    bounds = bounds-meet (holds .enclosed);
+    loss = loss;
+    answer-is = refl;
+    says = loss-meets (lossBound pool tranche Low wide) (lossBound pool tranche High wide) (exactLoss pool tranche wide) loss (holds .says (lossOf loss) refl);
+  }
 
-pub loss-meets : {pool : Pool} {tranche : Tranche} {before after : Store} {reply : LossReply} → Replies pool tranche before after reply
-    → LossDemands pool tranche before after reply
-unfolding lossRefusal Wide lossBound exactLoss
-loss-meets replies =
-    let is = replies .refusal-is in
+number-is : (answer : Answer) → refusalIn answer ≡ refusalOf (replyOf answer)
+unfolding replyOf refusalOf
+number-is (Refused number) = refl
+number-is (Answered loss) = refl
+
+pub tranche-meets : {pool : Pool} {tranche : Tranche} {before after : Store} (answer : Answer) → Replies pool tranche before after (replyOf answer)
+    → TrancheDemands pool tranche (slices before) (slices after) answer
+unfolding lossRefusal Wide lossBound exactLoss lengths
+tranche-meets answer replies =
+    let is = number-is answer ∙ replies .refusal-is in
     let leaves = rw (← is) at (replies .leaves) in
     record {
-      one = record { number = is; untouched = store-kept leaves };
+      one = record { number = is; untouched = λ some. ap slices (store-kept leaves some) };
       table = table-meets leaves;
+      later = later-meets leaves;
       wide = λ none. replies .wide (sym is ∙ none);
-      loss = λ none wide. reply-meets (replies .holds-loss (sym is ∙ none) wide);
+      loss = λ none wide. answer-meets answer (replies .holds-loss (sym is ∙ none) wide);
     }
