@@ -70,12 +70,22 @@ pub record Demand3Column (n : ℕ) (exact : ℕ → Fraction) (units : List ℕ)
 
 -- ---- what calls are given and leave
 
--- The four slices of a store, by the names under which the calls take them.
+-- The four slices of a store, in the order in which the calls take them.
 pub record Slices : Type 0 where
   pub lowSignificands : List ℕ
   pub highSignificands : List ℕ
   pub lowExponents : List ℤ
   pub highExponents : List ℤ
+
+unfoldable pub lent : (lowSignificands highSignificands : List ℕ) (lowExponents highExponents : List ℤ) → Slices
+lent ls hs le he = record { lowSignificands = ls; highSignificands = hs; lowExponents = le; highExponents = he }
+
+abbrev pub lengthsOf : Slices → List ℕ
+lengthsOf s = length (s .lowSignificands) ∷ length (s .highSignificands) ∷ length (s .lowExponents) ∷ length (s .highExponents) ∷ []
+
+-- What stands from a place on.
+abbrev pub from : ℕ → Slices → Slices
+from i s = lent (drop i (s .lowSignificands)) (drop i (s .highSignificands)) (drop i (s .lowExponents)) (drop i (s .highExponents))
 
 -- The significands of a side, and the kept number that stands at a place.
 abbrev pub significandsOn : Side → Slices → List ℕ
@@ -85,26 +95,6 @@ significandsOn High s = s .highSignificands
 abbrev pub numberOn : Side → Slices → ℕ → Kept
 numberOn Low s i = record { significand = getD (s .lowSignificands) i 0; exponent = getD (s .lowExponents) i (pos 0) }
 numberOn High s i = record { significand = getD (s .highSignificands) i 0; exponent = getD (s .highExponents) i (pos 0) }
-
-abbrev pub lengthsOf : Slices → List ℕ
-lengthsOf s = length (s .lowSignificands) ∷ length (s .highSignificands) ∷ length (s .lowExponents) ∷ length (s .highExponents) ∷ []
-
--- The table that every accepted call works out. In the store, at place k(k+1)/2 + j, stand on either side the numbers that steps 1 to 3 make for entry j of
--- row k, bounds of P(j,k). Steps 4 and 5 make bounds of the chances and of the tails. No number that the steps make has an exponent below −80,000 or above 100.
-pub record TableDemands (n p ρ : ℕ) (s : Slices) : Type 0 where
-  pub made : (side : Side) (j k : ℕ) → j ≤ k → k ≤ n → numberOn side s (k * (k + 1) / 2 + j) ≡ keptRow side p ρ k j
-  pub entries : (j k : ℕ) → j ≤ k → k ≤ n
-      → BoundDemands (numberOn Low s (k * (k + 1) / 2 + j)) (numberOn High s (k * (k + 1) / 2 + j)) (probability p ρ j k)
-  pub chances : (j : ℕ) → j ≤ n → BoundDemands (keptDefaults Low n p ρ j) (keptDefaults High n p ρ j) (chance (defaults n p ρ) j)
-  pub tails : (k : ℕ) → BoundDemands (keptPoolTail Low n p ρ k) (keptPoolTail High n p ρ k) (tail (defaults n p ρ) k)
-  pub exponents : (side : Side) {x : Kept} → PoolNumber side n p ρ x → (negsuc 79999 ≤ℤ x .exponent) × (x .exponent ≤ℤ pos 100)
-
--- The places after (n+1)(n+2)/2 keep their content.
-pub record LaterKept (n : ℕ) (before after : Slices) : Type 0 where
-  pub lowSignificands : drop ((n + 1) * (n + 2) / 2) (after .lowSignificands) ≡ drop ((n + 1) * (n + 2) / 2) (before .lowSignificands)
-  pub highSignificands : drop ((n + 1) * (n + 2) / 2) (after .highSignificands) ≡ drop ((n + 1) * (n + 2) / 2) (before .highSignificands)
-  pub lowExponents : drop ((n + 1) * (n + 2) / 2) (after .lowExponents) ≡ drop ((n + 1) * (n + 2) / 2) (before .lowExponents)
-  pub highExponents : drop ((n + 1) * (n + 2) / 2) (after .highExponents) ≡ drop ((n + 1) * (n + 2) / 2) (before .highExponents)
 
 -- 2^−800
 unfoldable pub edge : Fraction
@@ -150,10 +140,61 @@ refusalIn (Answered loss) = 0
 
 -- ---- the calls
 
-pub record FillDemands (pool : Pool) (before after : Slices) (refusal : ℕ) : Type 0 where
-  pub one : Demand1 (fillGrounds (pool .assets) (pool .probability) (pool .correlation) (lengthsOf before)) refusal before after
-  pub table : refusal ≡ 0 → TableDemands (pool .assets) (pool .probability) (pool .correlation) after
-  pub later : refusal ≡ 0 → LaterKept (pool .assets) before after
+module _ (pool : Pool) where
+  abbrev n : ℕ
+  n = pool .assets
+
+  abbrev p : ℕ
+  p = pool .probability
+
+  abbrev ρ : ℕ
+  ρ = pool .correlation
+
+  -- The table that every accepted call works out. In the store, at place k(k+1)/2 + j, stand on either side the numbers that steps 1 to 3 make for entry j of
+  -- row k, bounds of P(j,k). Steps 4 and 5 make bounds of the chances and of the tails. No number that the steps make has an exponent below −80,000 or above
+  -- 100.
+  pub record TableDemands (s : Slices) : Type 0 where
+    pub made : (side : Side) (j k : ℕ) → j ≤ k → k ≤ n → numberOn side s (k * (k + 1) / 2 + j) ≡ keptRow side p ρ k j
+    pub entries : (j k : ℕ) → j ≤ k → k ≤ n
+        → BoundDemands (numberOn Low s (k * (k + 1) / 2 + j)) (numberOn High s (k * (k + 1) / 2 + j)) (probability p ρ j k)
+    pub chances : (j : ℕ) → j ≤ n → BoundDemands (keptDefaults Low n p ρ j) (keptDefaults High n p ρ j) (chance (defaults n p ρ) j)
+    pub tails : (k : ℕ) → BoundDemands (keptPoolTail Low n p ρ k) (keptPoolTail High n p ρ k) (tail (defaults n p ρ) k)
+    pub exponents : (side : Side) {x : Kept} → PoolNumber side n p ρ x → (negsuc 79999 ≤ℤ x .exponent) × (x .exponent ≤ℤ pos 100)
+
+  -- The places of rows 0 to n.
+  abbrev places : ℕ
+  places = (n + 1) * (n + 2) / 2
+
+  pub record FillDemands (before after : Slices) (refusal : ℕ) : Type 0 where
+    pub one : Demand1 (fillGrounds n p ρ (lengthsOf before)) refusal before after
+    pub table : refusal ≡ 0 → TableDemands after
+    pub later : refusal ≡ 0 → from places after ≡ from places before
+
+  pub record ColumnDemands (before after : Slices) (units units′ : List ℕ) (refusal : ℕ) : Type 0 where
+    pub one : Demand1 {Given = Slices × List ℕ} (columnGrounds n p ρ (lengthsOf before) (length units)) refusal (before, units) (after, units′)
+    pub table : refusal ≡ 0 → TableDemands after
+    pub later : refusal ≡ 0 → from places after ≡ from places before
+    pub column : refusal ≡ 0 → Demand3Column n (chance (defaults n p ρ)) units′
+    pub later-rows : refusal ≡ 0 → drop (n + 1) units′ ≡ drop (n + 1) units
+
+  module _ (tranche : Tranche) where
+    abbrev R : ℕ
+    R = pool .recovery
+
+    abbrev A : ℕ
+    A = tranche .lower
+
+    abbrev B : ℕ
+    B = tranche .upper
+
+    -- `wide`: what step 6 divides by is above zero.
+    pub record TrancheDemands (before after : Slices) (answer : Answer) : Type 0 where
+      pub one : Demand1 (lossGrounds n p ρ R A B (lengthsOf before)) (refusalIn answer) before after
+      pub table : refusalIn answer ≡ 0 → TableDemands after
+      pub later : refusalIn answer ≡ 0 → from places after ≡ from places before
+      pub wide : refusalIn answer ≡ 0 → 0 < (B - A) * n
+      pub loss : refusalIn answer ≡ 0 → (wide : 0 < (B - A) * n)
+          → AnswerDemands (keptPoolLoss Low n p ρ R A B wide) (keptPoolLoss High n p ρ R A B wide) (poolLoss n p ρ R A B wide) answer
 
 -- The slice is lent to be read, so that no call can write to it. Row k of a filled store has the significands of its bounds.
 pub record RowDemands (n k : ℕ) (significands part : List ℕ) (refusal : ℕ) : Type 0 where
@@ -161,26 +202,5 @@ pub record RowDemands (n k : ℕ) (significands part : List ℕ) (refusal : ℕ)
   pub refused : (refusal ≡ 0 → ⊥) → length part ≡ 0
   pub entries : refusal ≡ 0 → length part ≡ k + 1
   pub entry : refusal ≡ 0 → (j : ℕ) → j ≤ k → getD part j 0 ≡ getD significands (k * (k + 1) / 2 + j) 0
-  pub of-filled : refusal ≡ 0 → (m p ρ : ℕ) (s : Slices) → TableDemands m p ρ s → n ≤ m → (side : Side) → significands ≡ significandsOn side s
-      → (j : ℕ) → j ≤ k → getD part j 0 ≡ keptRow side p ρ k j .significand
-
-pub record ColumnDemands (pool : Pool) (before after : Slices) (units units′ : List ℕ) (refusal : ℕ) : Type 0 where
-  pub one : Demand1 {Given = Slices × List ℕ} (columnGrounds (pool .assets) (pool .probability) (pool .correlation) (lengthsOf before) (length units)) refusal
-      (before, units) (after, units′)
-  pub table : refusal ≡ 0 → TableDemands (pool .assets) (pool .probability) (pool .correlation) after
-  pub later : refusal ≡ 0 → LaterKept (pool .assets) before after
-  pub column : refusal ≡ 0 → Demand3Column (pool .assets) (chance (defaults (pool .assets) (pool .probability) (pool .correlation))) units′
-  pub later-rows : refusal ≡ 0 → drop (pool .assets + 1) units′ ≡ drop (pool .assets + 1) units
-
-pub record TrancheDemands (pool : Pool) (tranche : Tranche) (before after : Slices) (answer : Answer) : Type 0 where
-  pub one : Demand1
-      (lossGrounds (pool .assets) (pool .probability) (pool .correlation) (pool .recovery) (tranche .lower) (tranche .upper) (lengthsOf before))
-      (refusalIn answer) before after
-  pub table : refusalIn answer ≡ 0 → TableDemands (pool .assets) (pool .probability) (pool .correlation) after
-  pub later : refusalIn answer ≡ 0 → LaterKept (pool .assets) before after
-  -- What step 6 divides by is above zero.
-  pub wide : refusalIn answer ≡ 0 → 0 < (tranche .upper - tranche .lower) * pool .assets
-  pub loss : refusalIn answer ≡ 0 → (wide : 0 < (tranche .upper - tranche .lower) * pool .assets) → AnswerDemands
-      (keptPoolLoss Low (pool .assets) (pool .probability) (pool .correlation) (pool .recovery) (tranche .lower) (tranche .upper) wide)
-      (keptPoolLoss High (pool .assets) (pool .probability) (pool .correlation) (pool .recovery) (tranche .lower) (tranche .upper) wide)
-      (poolLoss (pool .assets) (pool .probability) (pool .correlation) (pool .recovery) (tranche .lower) (tranche .upper) wide) answer
+  pub of-filled : refusal ≡ 0 → (pool : Pool) (s : Slices) → TableDemands pool s → n ≤ pool .assets → (side : Side) → significands ≡ significandsOn side s
+      → (j : ℕ) → j ≤ k → getD part j 0 ≡ keptRow side (pool .probability) (pool .correlation) k j .significand

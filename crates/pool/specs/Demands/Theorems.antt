@@ -37,7 +37,7 @@ use Rattle.pool.specs.declared.Answer.the-variants.{Refused, Answered}
 use Rattle.pool.specs.Stores.{Store, lengths, half, numberAt, place, filledHalf, storeAfter}
 use Rattle.pool.specs.Answers.{lossOf, replyOf, refusalOf}
 use Rattle.pool.specs.Calls.{LeavesStore, Fills, fillRefusal, HandsRow, rowRefusal, columnRefusal, unitsAfter, HoldsColumn, Prints, lossRefusal, Wide, lossBound, exactLoss, HoldsLoss, Replies}
-use Rattle.pool.specs.Demands.{BoundDemands, oneAndAHalf, Demand3Column, Slices, significandsOn, numberOn, TableDemands, LaterKept, edge, LossDemands, AnswerDemands, refusalIn}
+use Rattle.pool.specs.Demands.{BoundDemands, oneAndAHalf, Demand3Column, Slices, significandsOn, numberOn, from, TableDemands, edge, LossDemands, AnswerDemands, refusalIn}
 use Rattle.pool.specs.Demands.{FillDemands, RowDemands, ColumnDemands, TrancheDemands}
 
 -- The four slices of a store.
@@ -78,7 +78,7 @@ module _ {pool : Pool} {before after : Store} {refusal : ℕ} (leaves : LeavesSt
     made-on Low = leaves .holds none .made Low
     made-on High = leaves .holds none .made High
 
-    table-meets : TableDemands (pool .assets) (pool .probability) (pool .correlation) (slices after)
+    table-meets : TableDemands pool (slices after)
     unfolding numberAt place
     table-meets =
         let steps = leaves .steps-hold none in
@@ -90,7 +90,7 @@ module _ {pool : Pool} {before after : Store} {refusal : ℕ} (leaves : LeavesSt
           exponents = λ side number. let ranged = steps .ranged side number in (ranged .least, ranged .most);
         }
 
-    later-meets : LaterKept (pool .assets) (slices before) (slices after)
+    later-meets : let places = (pool .assets + 1) * (pool .assets + 2) / 2 in from places (slices after) ≡ from places (slices before)
     unfolding storeAfter filledHalf triangle
     later-meets =
         let n = pool .assets in
@@ -98,12 +98,13 @@ module _ {pool : Pool} {before after : Store} {refusal : ℕ} (leaves : LeavesSt
         let ρ = pool .correlation in
         let is : after ≡ storeAfter n p ρ 0 before = rw none at (leaves .store-is) in
         let places : triangle (suc n) ≡ (n + 1) * (n + 2) / 2 = omega (arith, triangle-closed (suc n)) in
-        rw is (record {
-          lowSignificands = later-kept (storedSignificands Low p ρ n) _ (stored-significands-length Low p ρ n ∙ places);
-          highSignificands = later-kept (storedSignificands High p ρ n) _ (stored-significands-length High p ρ n ∙ places);
-          lowExponents = later-kept (storedExponents Low p ρ n) _ (stored-exponents-length Low p ρ n ∙ places);
-          highExponents = later-kept (storedExponents High p ρ n) _ (stored-exponents-length High p ρ n ∙ places);
-        })
+        rw (
+          is,
+          later-kept (storedSignificands Low p ρ n) (before .low .significands) (stored-significands-length Low p ρ n ∙ places),
+          later-kept (storedSignificands High p ρ n) (before .high .significands) (stored-significands-length High p ρ n ∙ places),
+          later-kept (storedExponents Low p ρ n) (before .low .exponents) (stored-exponents-length Low p ρ n ∙ places),
+          later-kept (storedExponents High p ρ n) (before .high .exponents) (stored-exponents-length High p ρ n ∙ places),
+        ) refl
 
 pub fill-meets : {pool : Pool} {before after : Store} {refusal : ℕ} → Fills pool before after refusal → FillDemands pool (slices before) (slices after) refusal
 unfolding fillRefusal lengths
@@ -125,7 +126,7 @@ row-meets {n} {k} {significands} hands is = record {
   refused = λ some. hands .refused-empty (λ none. some (is ∙ none));
   entries = λ none. hands .accepted-length (sym is ∙ none);
   entry = λ none. hands .entries (sym is ∙ none);
-  of-filled = λ none m p ρ s filled more side same j l.
+  of-filled = λ none pool s filled more side same j l.
       let row : k ≤ n = row-accepted n k (length significands) (sym is ∙ none) .row in
       hands .entries (sym is ∙ none) j l
       ∙ rw same (significand-on side s (k * (k + 1) / 2 + j) ∙ ap (λ x. x .significand) (filled .made side j k l (omega arith)));
