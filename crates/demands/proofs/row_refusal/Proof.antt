@@ -1,0 +1,13 @@
+-- `row_refusal` meets its contract.
+-- Assumes nothing.
+use borrow.Author.Needs.{needs}
+use Rattle.pool.specs.Calls.{rowRefusal}
+use Rattle.demands.proofs.row_refusal.Statement.{statement}
+use Rattle.demands.proofs.row_refusal.Tie as tie
+
+returns : tie.Need-returns
+unfolding rowRefusal
+returns c = search needs
+
+pub row-refusal-spec : {M : Type 1} → statement M
+row-refusal-spec = tie.close (tie.spec (λ c κs. search needs) returns)

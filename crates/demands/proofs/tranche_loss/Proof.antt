@@ -1,0 +1,15 @@
+-- `tranche_loss` meets its contract.
+-- Assumes nothing.
+use borrow.Author.Needs.{needs}
+use Rattle.pool.specs.Stores.{store}
+use Rattle.pool.specs.Demands.{lent}
+use Rattle.pool.specs.Demands.Theorems.{tranche-meets}
+use Rattle.demands.proofs.tranche_loss.Statement.{statement}
+use Rattle.demands.proofs.tranche_loss.Tie as tie
+
+returns : tie.Need-returns
+unfolding store lent
+returns c = tranche-meets _ (c .before .before .before .before .before .before .tranche-loss .ensures)
+
+pub tranche-loss-spec : {M : Type 1} → statement M
+tranche-loss-spec = tie.close (tie.spec (λ c κs. search needs) (λ c. search needs) (λ c. search needs) (λ c. search needs) (λ c. search needs) returns)

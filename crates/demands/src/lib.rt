@@ -1,0 +1,91 @@
+// Each call with the page of demands for its contract. Nothing is added to the calls: that these functions are proved shows that the
+// contracts in their source imply the page.
+use pool::Answer;
+use pool::Pool;
+use pool::Tranche;
+ghost use mathlib.Core.Path.{_≡_};
+ghost use Prim.Native.Nat.{ℕ};
+ghost use lib.ListN.{length};
+ghost use Rattle.grounds.specs.Grounds.{firstGround, rowGrounds};
+ghost use Rattle.pool.specs.Demands.{lent, FillDemands, RowDemands, ColumnDemands, TrancheDemands};
+
+pub fn fill(
+    pool: Pool,
+    low_significands: &mut [u32],
+    high_significands: &mut [u32],
+    low_exponents: &mut [i32],
+    high_exponents: &mut [i32],
+) -> u32
+    ensures { λ r. ⌜ FillDemands pool
+        (lent (now («low_significands» .entry)) (now («high_significands» .entry)) (now («low_exponents» .entry)) (now («high_exponents» .entry)))
+        (lent (now («low_significands» .exit)) (now («high_significands» .exit)) (now («low_exponents» .exit)) (now («high_exponents» .exit)))
+        r ⌝ }
+{
+    pool::fill(
+        pool,
+        low_significands,
+        high_significands,
+        low_exponents,
+        high_exponents,
+    )
+}
+
+pub fn row(n: u32, k: u32, significands: &[u32]) -> &[u32]
+    ensures { λ r. ⌜ ((refusal : ℕ) → refusal ≡ firstGround (rowGrounds n k (length (now (significands .entry)))) → RowDemands n k (now (significands .entry)) (now r) refusal) ⌝ }
+{
+    pool::row(n, k, significands)
+}
+
+pub fn row_refusal(n: u32, k: u32, significands: &[u32]) -> u32
+    ensures { λ r. ⌜ r ≡ firstGround (rowGrounds n k (length (now (significands .entry)))) ⌝ }
+{
+    pool::row_refusal(n, k, significands)
+}
+
+pub fn column(
+    pool: Pool,
+    low_significands: &mut [u32],
+    high_significands: &mut [u32],
+    low_exponents: &mut [i32],
+    high_exponents: &mut [i32],
+    units: &mut [u32],
+) -> u32
+    ensures { λ r. ⌜ ColumnDemands pool
+        (lent (now («low_significands» .entry)) (now («high_significands» .entry)) (now («low_exponents» .entry)) (now («high_exponents» .entry)))
+        (lent (now («low_significands» .exit)) (now («high_significands» .exit)) (now («low_exponents» .exit)) (now («high_exponents» .exit)))
+        (now (units .entry))
+        (now (units .exit))
+        r ⌝ }
+{
+    pool::column(
+        pool,
+        low_significands,
+        high_significands,
+        low_exponents,
+        high_exponents,
+        units,
+    )
+}
+
+pub fn tranche_loss(
+    pool: Pool,
+    tranche: Tranche,
+    low_significands: &mut [u32],
+    high_significands: &mut [u32],
+    low_exponents: &mut [i32],
+    high_exponents: &mut [i32],
+) -> Answer
+    ensures { λ r. ⌜ TrancheDemands pool tranche
+        (lent (now («low_significands» .entry)) (now («high_significands» .entry)) (now («low_exponents» .entry)) (now («high_exponents» .entry)))
+        (lent (now («low_significands» .exit)) (now («high_significands» .exit)) (now («low_exponents» .exit)) (now («high_exponents» .exit)))
+        r ⌝ }
+{
+    pool::tranche_loss(
+        pool,
+        tranche,
+        low_significands,
+        high_significands,
+        low_exponents,
+        high_exponents,
+    )
+}
