@@ -1,4 +1,4 @@
-"""Works the six steps out in exact whole numbers and prints the figures of pools of 3 assets. It stops at the first that
+"""Works the six steps out in exact whole numbers and prints the figures of small pools. It stops at the first that
 crates/steps/specs/Cases.antt does not have.
 
     python3 tools/steps_figures.py
@@ -39,6 +39,8 @@ def main():
         line(f"(threeTail {k} ≡ {printed[k]})")
     others = [steps(side, 3, 500, 500)[1] for side in (0, 1)]
     digits("λ side. keptPoolTail side 3 500 500 1", lambda side: tails(side, others[side])[1])
+    line(f"(printedTail 3 (keptDefaults Low 3 500 500) 3 ≡ {printed_tails(others[0])[3]})")
+    line(f"(printedTail 1 (keptDefaults Low 1 1000 3000) 1 ≡ {printed_tails(steps(0, 1, 1000, 3000)[1])[1]})")
 
 
 if __name__ == "__main__":

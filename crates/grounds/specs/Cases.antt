@@ -1,15 +1,31 @@
--- The grounds by their numbers: which each call checks, in order, and for each ground inputs to which it alone applies.
+-- The grounds in figures: each for every input, those that each call checks, in order, and for each ground inputs to which it alone applies.
 -- Assumes nothing.
-use Prim.Native.Nat.{ℕ}
+use Prim.Native.Nat.{ℕ, _+_, _*_, _/_}
 use mathlib.Core.Path.{_≡_, refl}
-use mathlib.Core.Bool.{cond}
+use mathlib.Core.Bool.{cond, not, _||_}
 use mathlib.Core.List.{List, [], _∷_}
+use lib.Dec.{eqb, ltb}
 use Rattle.model.specs.Fraction.{whole}
 use Rattle.steps.specs.Pool.{largestPool}
 use Rattle.grounds.specs.Grounds.{Ground, storePlaces, someShorter, assetsGround, probabilityGround, correlationGround, recoveryGround, upperGround}
 use Rattle.grounds.specs.Grounds.{attachmentsGround, storeGround, columnGround, rowGround, poolGrounds, trancheGrounds}
 use Rattle.grounds.specs.Grounds.{fillGrounds, rowGrounds, columnGrounds, lossGrounds}
 
+-- Each ground in figures, for every input.
+pub figures : (n p ρ R A B k units : ℕ) (lengths : List ℕ)
+    → (assetsGround n ≡ record { number = 1; applies = eqb n 0 || ltb 64 n })
+    × (probabilityGround p ≡ record { number = 2; applies = ltb 10000 p })
+    × (correlationGround ρ ≡ record { number = 3; applies = ltb 10000 ρ })
+    × (recoveryGround R ≡ record { number = 4; applies = ltb 10000 R })
+    × (upperGround B ≡ record { number = 5; applies = ltb 10000 B })
+    × (attachmentsGround A B ≡ record { number = 6; applies = not (ltb A B) })
+    × (storeGround n lengths ≡ record { number = 7; applies = someShorter ((n + 1) * (n + 2) / 2) lengths })
+    × (columnGround n units ≡ record { number = 8; applies = ltb units (n + 1) })
+    × (rowGround n k ≡ record { number = 9; applies = ltb n k })
+unfolding assetsGround probabilityGround correlationGround recoveryGround upperGround attachmentsGround storeGround columnGround rowGround storePlaces largestPool whole
+figures n p ρ R A B k units lengths = (refl, refl, refl, refl, refl, refl, refl, refl, refl)
+
+-- The grounds that each call checks, in order.
 abbrev numbers : List Ground → List ℕ
 numbers [] = []
 numbers (g ∷ gs) = g .number ∷ numbers gs

@@ -1,4 +1,4 @@
--- Pools of 3 assets by the steps, digit for digit, and the column that the scope paper prints for p = 1000 and ρ = 3000. The digits were worked out in exact
+-- Pools of 3 assets and of one by the steps, digit for digit, and the column that the scope paper prints for p = 1000 and ρ = 3000. The digits were worked out in exact
 -- fractions by tools/steps_figures.py.
 -- Assumes nothing.
 use Prim.Native.Nat.{ℕ, _-_, _*_, _<_}
@@ -71,6 +71,9 @@ pub cases :
     × (lossAnswer (threeLoss 1000 3000 (lit< tt) Low) (threeLoss 1000 3000 (lit< tt) High) ≡ shown (toBinary64 (figure 2399314755 33)) (toBinary64 (figure 2399314766 33)))
     × (lossAnswer (threeLoss 6000 10000 (lit< tt) Low) (threeLoss 6000 10000 (lit< tt) High) ≡ untouched)
     × (lossAnswer nought (figure 2147483648 900) ≡ faint (toBinary64 keptLeastShown))
+    -- A tail of 69.5 units is rounded down, and one of 10,000 units has less on the low side.
+    × (printedTail 3 (keptDefaults Low 3 500 500) 3 ≡ 69)
+    × (printedTail 1 (keptDefaults Low 1 1000 3000) 1 ≡ 9999)
 unfolding scaled nought unity step carry round roundedProduct roundedSum roundedQuotient ofInteger ofBasisPoints size choose cut raise integer plus times divided whole complement over pass passed lossUnits constant keptConditional keptJoint keptPower keptWeight keptPassStep keptRow keptTotal keptChance keptTail keptTerm keptLoss unitsOfCertainty inUnits printedTail printedRow keptDefaults keptPoolTail keptPoolLoss leastShown belowShown keptLeastShown raisedToShown lossAnswer
 cases = (
   (refl, refl),
@@ -99,6 +102,8 @@ cases = (
   refl,
   refl,
   (refl, refl),
+  refl,
+  refl,
   refl,
   refl,
   refl,
