@@ -2,10 +2,15 @@
 worked out by tools/pools.py.
 
     python3 tools/column_lines.py > crates/column_lines/stdout
+    python3 tools/column_lines.py input > crates/column_lines/stdin
 """
 import re
+import sys
 
 from pools import first, pool_grounds, printed_rows, printed_tails, steps
+
+# The bytes of crates/column_lines/stdin.
+INPUT = b"00003 01000 03000\n" + b"0" * 46 + b"00003 01000 03000\n"
 
 INPUTS = [
     # Tables.
@@ -67,6 +72,9 @@ INPUTS = [
     b"00003 01000 03000\n" + b"0" * 45,
     b"00003 01000 03000\n" + b"0" * 46,
     b"00003 01000 03000\n" + b"0" * 47,
+    # The bytes of crates/column_lines/stdin, as the program reads them: 64 bytes, then the rest.
+    INPUT[:64],
+    INPUT[64:],
 ]
 
 
@@ -85,5 +93,8 @@ def answer(data):
     return [f"refused {number}"] if number > 0 else table(*pool)
 
 
-for number, data in enumerate(INPUTS, 1):
-    print(f"case {number}", *answer(data), sep="\n")
+if sys.argv[1:] == ["input"]:
+    sys.stdout.buffer.write(INPUT)
+else:
+    for number, data in enumerate(INPUTS, 1):
+        print(f"case {number}", *answer(data), sep="\n")

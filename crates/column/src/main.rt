@@ -1,12 +1,4 @@
-// Reads the start of standard input and writes the answer to it: the table of a column, or a refusal.
-use libc::STDIN_FILENO;
-use libc::STDOUT_FILENO;
-
+// Answers standard input.
 fn main() {
-    let mut start = [0u8; reply::START];
-    let count = io::read_full(STDIN_FILENO, &mut start);
-    let reply = reply::reply_to_start(start, count);
-    let text = reply.text;
-    let length = reply.length;
-    io::write_all(STDOUT_FILENO, &text[..length]);
+    console::answer();
 }

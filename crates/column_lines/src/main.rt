@@ -2,35 +2,27 @@
 // same lines out in exact fractions.
 use libc::STDOUT_FILENO;
 use reply::START;
-ghost use Prim.Native.Nat.{_≤_};
-ghost use lib.ListN.{length};
 
-// How many bytes of an input the program reads.
-fn bytes_read(input: &[u8]) -> usize
-    ensures { λ r. ⌜ r ≤ 64 ⌝ ∗ ⌜ r ≤ length (now (input .entry)) ⌝ }
-{
-    if input.len() < START {
-        input.len()
-    } else {
-        START
-    }
-}
-
-// These bytes, at the start of the program's buffer.
+// The first bytes of an input, in a buffer as long as the program's.
 fn start_of(input: &[u8]) -> [u8; START] {
     let mut start = [0u8; START];
-    let count = bytes_read(input);
-    for i in 0..count {
-        start[i] = input[i];
+    for i in 0..START {
+        if i < input.len() {
+            start[i] = input[i];
+        }
     }
     start
 }
 
-fn show(number: u64, input: &[u8]) {
+fn show_number(number: u64) {
     io::write_all(STDOUT_FILENO, b"case ");
     io::print_decimal(STDOUT_FILENO, number);
     io::write_all(STDOUT_FILENO, b"\n");
-    let reply = reply::reply_to_start(start_of(input), bytes_read(input));
+}
+
+fn show(number: u64, input: &[u8]) {
+    show_number(number);
+    let reply = reply::reply_to_start(start_of(input), input.len());
     let text = reply.text;
     let length = reply.length;
     io::write_all(STDOUT_FILENO, &text[..length]);
@@ -125,6 +117,14 @@ fn longest_lines() {
     );
 }
 
+// Standard input, by one read after the other: the first fills the buffer, and the second takes the rest.
+fn inputs_read() {
+    show_number(53);
+    console::answer();
+    show_number(54);
+    console::answer();
+}
+
 fn main() {
     tables();
     refusals();
@@ -133,4 +133,5 @@ fn main() {
     bad_ends();
     long_inputs();
     longest_lines();
+    inputs_read();
 }

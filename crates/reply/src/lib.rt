@@ -51,7 +51,7 @@ fn column_reply(n: u32, p: u32, rho: u32) -> Reply
 }
 
 // Any bytes may be given.
-pub fn reply_to(input: &[u8]) -> Reply
+fn reply_to(input: &[u8]) -> Reply
     ensures { λ r. ⌜ Carries (AnswersInput (now (input .entry))) r ⌝ }
 {
     match text::line::read_line(input) {
