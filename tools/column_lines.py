@@ -10,7 +10,7 @@ import sys
 from pools import first, pool_grounds, printed_rows, printed_tails, steps
 
 # The bytes of crates/column_lines/stdin.
-INPUT = b"00003 01000 03000\n" + b"0" * 46 + b"00003 01000 03000\n"
+INPUT = b"00003 01000 03000\n" + b"x" * 46 + b"3 1000 3000\n"
 
 INPUTS = [
     # Tables.
