@@ -64,7 +64,8 @@ fn reply_to(input: &[u8]) -> Reply
     }
 }
 
-// The answer to every input that starts with these bytes: as many as the count says, where it has no more, or else all of them.
+// The first bytes of an input, and how many there are: all of it, or as many as there is room for. The answer is that to the whole
+// input, whatever follows them.
 pub fn reply_to_start(start: [u8; START], count: usize) -> Reply
     ensures { λ r. ⌜ Carries (AnswersStart start count) r ⌝ }
 {

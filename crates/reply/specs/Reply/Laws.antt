@@ -67,7 +67,7 @@ input-length : {input : List ℕ} {n p ρ : ℕ} → Accepts input n p ρ → le
 input-length a = rw (a .line) (simp length-append (omega (arith, a .n-decimal .at-most-five, a .p-decimal .at-most-five, a .ρ-decimal .at-most-five)))
 
 -- So more than 18 bytes at the start of an input are enough to answer it.
-pub start-answers : (m : ℕ) (input text : List ℕ) → 18 < m → AnswersInput (take m input) text → AnswersInput input text
+start-answers : (m : ℕ) (input text : List ℕ) → 18 < m → AnswersInput (take m input) text → AnswersInput input text
 start-answers m input text enough answers =
     elim (decLe (length input) m) [
       | yes short ↦ rw (take-all m input short) at answers
