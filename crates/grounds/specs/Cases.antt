@@ -49,8 +49,8 @@ refusing n p ρ R A B lengths units k =
     ∷ storeGround n lengths ∷ columnGround n units ∷ rowGround n k ∷ [])
 
 -- Four slices, the last with a length of its own.
-abbrev slices : (length last : ℕ) → List ℕ
-slices length last = length ∷ length ∷ length ∷ last ∷ []
+abbrev slices : (places last : ℕ) → List ℕ
+slices places last = places ∷ places ∷ places ∷ last ∷ []
 
 -- At the edge of every ground none applies, and one past it each alone.
 pub table :

@@ -161,7 +161,7 @@ module _ (pool : Pool) where
     pub tails : (k : ℕ) → BoundDemands (keptPoolTail Low n p ρ k) (keptPoolTail High n p ρ k) (tail (defaults n p ρ) k)
     pub exponents : (side : Side) {x : Kept} → PoolNumber side n p ρ x → (negsuc 79999 ≤ℤ x .exponent) × (x .exponent ≤ℤ pos 100)
 
-  -- The places of rows 0 to n.
+  -- The places of rows 0 to n. `later`: those behind them keep their content.
   abbrev places : ℕ
   places = (n + 1) * (n + 2) / 2
 

@@ -5,7 +5,7 @@ use mathlib.Core.Path.{_≡_, refl, sym, ap, _∙_}
 use mathlib.Core.List.{List, [], _∷_}
 use native.Mathlib.Omega.{arith}
 use lib.Dec.{lit≤, lit<}
-use lib.ListN.{length, length-append}
+use lib.ListN.{length, take, length-append}
 use Rattle.model.specs.Fraction.{whole}
 use Rattle.model.specs.CorrelatedBinomial.{defaults}
 use Rattle.kept.specs.declared.Side.the-variants.{Low}
@@ -19,7 +19,8 @@ use Rattle.text.specs.Cases.{line-of-decimals, line-of-three, table-of-three}
 use Rattle.text.specs.Line.{Accepts}
 use Rattle.text.specs.Table.{digitsBySteps, decimal, fieldText, rowOf, refusedText, refusedLine}
 use Rattle.text.specs.Table.Laws.{column-text}
-use Rattle.reply.specs.Reply.{AnswersInput}
+use Rattle.reply.specs.declared.Reply.{Reply}
+use Rattle.reply.specs.Reply.{AnswersInput, AnswersStart, Carries}
 
 accepted : firstGround (poolGrounds 3 1000 3000) ≡ 0
 unfolding firstGround poolGrounds assetsGround probabilityGround correlationGround largestPool whole
@@ -73,3 +74,8 @@ reply-of-none answers = answers .line 0 1000 3000 line-of-none .refused (λ none
 pub reply-of-number : {text : List ℕ} → AnswersInput (ascii "3\n") text → text ≡ ascii "refused line\n"
 unfolding refusedLine ascii
 reply-of-number answers = answers .no-line (λ n p ρ line. omega (arith, simp length-append at (ap length (line .line))))
+
+-- What a reply to a buffer carries answers every input that starts as the buffer does.
+pub reply-of-start : {buffer : List ℕ} {count : ℕ} {reply : Reply} → Carries (AnswersStart buffer count) reply → (input : List ℕ)
+    → take (length buffer) input ≡ take count buffer → AnswersInput input (take (reply .length) (reply .text))
+reply-of-start carries = carries .answers .every

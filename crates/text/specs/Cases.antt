@@ -1,17 +1,27 @@
--- Three numbers below 100,000, written in decimal, make a line. The line and the table of the pool n = 3, p = 1000, ρ = 3000, byte for byte.
+-- A line in figures. Three numbers below 100,000, written in decimal, make one. The line and the table of the pool n = 3, p = 1000, ρ = 3000, byte for byte.
 -- Assumes nothing.
 use Prim.Native.Nat.{ℕ, _<_, _≤_, _^_}
 use Prim.Native.Char.{code}
 use mathlib.Core.Path.{_≡_, refl}
-use mathlib.Core.List.{[], _∷_, _++_}
+use mathlib.Core.List.{List, [], _∷_, _++_}
 use native.Mathlib.Omega.{arith}
 use lib.Dec.{lit<}
 use lib.ListN.{length, length-append}
 use Rattle.model.specs.Number.{sum, sumBetween}
 use Rattle.text.specs.Ascii.{ascii}
-use Rattle.text.specs.Line.{Decimal, Accepts}
+use Rattle.text.specs.Line.{Digit, Digits, Decimal, Accepts}
 use Rattle.text.specs.Table.{digitsBySteps, decimal, fieldText, line, lines, header, tableText, columnText}
 use Rattle.text.specs.Table.Laws.{decimal-length, decimal-writes}
+
+-- A digit is a byte from 48 to 57, a number has one to five, the spaces are 32 and the newline is 10.
+pub digit-figures : {byte : ℕ} → Digit byte → (48 ≤ byte) × (byte ≤ 57)
+digit-figures d = (d .not-below, d .not-above)
+
+pub decimal-figures : {digits : List ℕ} {value : ℕ} → Decimal digits value → (1 ≤ length digits) × (length digits ≤ 5) × Digits digits
+decimal-figures d = (d .at-least-one, d .at-most-five, d .all-digits)
+
+pub line-figures : {input : List ℕ} {n p ρ : ℕ} (line : Accepts input n p ρ) → input ≡ line .n-digits ++ 32 ∷ (line .p-digits ++ 32 ∷ (line .ρ-digits ++ 10 ∷ []))
+line-figures line = line .line
 
 some-digits : (number : ℕ) → 1 ≤ length (decimal number)
 unfolding decimal digitsBySteps

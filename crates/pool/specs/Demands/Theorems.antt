@@ -159,8 +159,8 @@ module _ (n p ρ : ℕ) (units : List ℕ) {units′ : List ℕ} where
   unfolding unitsAfter
   later-rows is none =
       let rows = tabulate (suc n) (printedRow n (keptDefaults Low n p ρ)) in
-      let whole : units′ ≡ overwritten rows units = rw none at is in
-      rw whole (later-kept rows units {m = n + 1} (rw length-tabulate (omega arith)))
+      let written : units′ ≡ overwritten rows units = rw none at is in
+      rw written (later-kept rows units {m = n + 1} (rw length-tabulate (omega arith)))
 
 pub column-meets : {pool : Pool} {before after : Store} {units units′ : List ℕ} {refusal : ℕ} → Prints pool before after units units′ refusal
     → ColumnDemands pool (slices before) (slices after) units units′ refusal
