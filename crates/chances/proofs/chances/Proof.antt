@@ -16,33 +16,9 @@ Inv-loop n side row coefficients chances₀ places j₀ chances j = (n ≤ 64) �
 abbrev μ-loop : tie.MeasureT-loop
 μ-loop n side row coefficients chances₀ places j₀ chances j = suc n - j
 
-binomials-requires : tie.Need-binomials-requires Inv-loop μ-loop
-binomials-requires c κs = omega arith
-
-zero-requires : tie.Need-zero-requires Inv-loop μ-loop
-zero-requires c κs = tt
-
-add-places : tie.Need-add-places Inv-loop μ-loop
-add-places c = omega arith
-
 loop-holds : tie.Need-loop-holds Inv-loop μ-loop
 unfolding workingPlaces largestPool
 loop-holds c = (omega arith, omega arith, chances-none _ refl)
-
-mul-from-integer : tie.Need-mul-from-integer Inv-loop μ-loop
-mul-from-integer c = omega arith
-
-array-read-from-integer : tie.Need-array-read-from-integer Inv-loop μ-loop
-array-read-from-integer c = omega arith
-
-from-integer-requires : tie.Need-from-integer-requires Inv-loop μ-loop
-from-integer-requires c κs = tt
-
-mul-product : tie.Need-mul-product Inv-loop μ-loop
-mul-product c = omega arith
-
-array-copy-out-product : tie.Need-array-copy-out-product Inv-loop μ-loop
-array-copy-out-product c = omega arith
 
 product-requires : tie.Need-product-requires Inv-loop μ-loop
 unfolding nought
@@ -52,18 +28,6 @@ product-requires c κs =
       coefficient-operand (start .pre) (at-loop .before .before .binomials .ensures) (at-loop .loop .j) (omega arith) (c .before .from-integer .ensures),
       entry-operand (start .pre .entries) (start .pre .entry-ranged) _ (omega arith),
     )
-
-mul-chances : tie.Need-mul-chances Inv-loop μ-loop
-mul-chances c = omega arith
-
-array-set-from-chances : tie.Need-array-set-from-chances Inv-loop μ-loop
-array-set-from-chances c = omega arith
-
-add-j : tie.Need-add-j Inv-loop μ-loop
-add-j c = omega arith
-
-loop-less : tie.Need-loop-less Inv-loop μ-loop
-loop-less c = omega arith
 
 loop-again : tie.Need-loop-again Inv-loop μ-loop
 unfolding nought
@@ -86,19 +50,19 @@ chances-spec =
     (tie.spec
     Inv-loop
     μ-loop
-    binomials-requires
-    zero-requires
-    add-places
+    (λ c κs. omega arith)
+    (λ c κs. tt)
+    (λ c. omega arith)
     loop-holds
-    mul-from-integer
-    array-read-from-integer
-    from-integer-requires
-    mul-product
-    array-copy-out-product
+    (λ c. omega arith)
+    (λ c. omega arith)
+    (λ c κs. tt)
+    (λ c. omega arith)
+    (λ c. omega arith)
     product-requires
-    mul-chances
-    array-set-from-chances
-    add-j
-    loop-less
+    (λ c. omega arith)
+    (λ c. omega arith)
+    (λ c. omega arith)
+    (λ c. omega arith)
     loop-again
     returns)

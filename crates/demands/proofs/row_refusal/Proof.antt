@@ -5,9 +5,6 @@ use Rattle.pool.specs.Calls.{rowRefusal}
 use Rattle.demands.proofs.row_refusal.Statement.{statement}
 use Rattle.demands.proofs.row_refusal.Tie as tie
 
-returns : tie.Need-returns
-unfolding rowRefusal
-returns c = search needs
-
 pub row-refusal-spec : {M : Type 1} → statement M
-row-refusal-spec = tie.close (tie.spec (λ c κs. search needs) returns)
+unfolding rowRefusal
+row-refusal-spec = tie.close (tie.spec (λ c κs. search needs) (λ c. search needs))

@@ -17,17 +17,11 @@ first c = let args = c .before .args in fillGrounds (args .n) (args .p) (args .r
 abbrev rest : tie.After-fill-refusal → List Ground
 rest c = columnGround (c .before .args .n) (c .before .args .units) ∷ []
 
-fill-refusal-requires : tie.Need-fill-refusal-requires
-fill-refusal-requires c κs = search needs
-
 returns : tie.Need-returns
 unfolding columnGrounds
 returns c =
     let tried = c .before in
     stops (first tried) (rest tried) (fill-numbered _ _ _ _) (tried .fill-refusal .ensures) (c .if1 .taken)
-
-add-rows : tie.Need-add-rows
-add-rows c = search needs
 
 returns-2 : tie.Need-returns-2
 unfolding firstGround columnGrounds columnGround
@@ -44,4 +38,4 @@ returns-3 c =
     (rw (le-ltb (tried .before .args .units) (tried .before .args .n + 1) (omega arith)) refl)
 
 pub column-refusal-spec : {M : Type 1} → statement M
-column-refusal-spec = tie.close (tie.spec fill-refusal-requires returns add-rows returns-2 returns-3)
+column-refusal-spec = tie.close (tie.spec (λ c κs. search needs) returns (λ c. search needs) returns-2 returns-3)

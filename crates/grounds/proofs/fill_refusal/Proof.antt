@@ -14,9 +14,6 @@ first c = poolGrounds (c .args .n) (c .args .p) (c .args .rho)
 abbrev rest : tie.Start → List Ground
 rest c = storeGround (c .args .n) (c .args .a ∷ c .args .b ∷ c .args .c ∷ c .args .d ∷ []) ∷ []
 
-pool-refusal-requires : tie.Need-pool-refusal-requires
-pool-refusal-requires c κs = search needs
-
 returns : tie.Need-returns
 unfolding fillGrounds
 returns c =
@@ -35,4 +32,4 @@ returns-2 c =
     goes-on (first (tried .before)) (rest (tried .before)) (pool-numbered _ _ _) (tried .pool-refusal .ensures) (c .before .if1 .left) (c .store-refusal .ensures)
 
 pub fill-refusal-spec : {M : Type 1} → statement M
-fill-refusal-spec = tie.close (tie.spec pool-refusal-requires returns store-refusal-requires returns-2)
+fill-refusal-spec = tie.close (tie.spec (λ c κs. search needs) returns store-refusal-requires returns-2)

@@ -17,18 +17,12 @@ second c = trancheGrounds (c .args .recovery) (c .args .lower) (c .args .upper)
 abbrev rest : tie.Start → List Ground
 rest c = storeGround (c .args .n) (c .args .a ∷ c .args .b ∷ c .args .c ∷ c .args .d ∷ []) ∷ []
 
-pool-refusal-requires : tie.Need-pool-refusal-requires
-pool-refusal-requires c κs = search needs
-
 returns : tie.Need-returns
 unfolding lossGrounds
 returns c =
     let tried = c .before in
     let start = tried .before in
     stops (first start) (second start ++ rest start) (pool-numbered _ _ _) (tried .pool-refusal .ensures) (c .if1 .taken)
-
-tranche-refusal-requires : tie.Need-tranche-refusal-requires
-tranche-refusal-requires c κs = search needs
 
 returns-2 : tie.Need-returns-2
 unfolding lossGrounds
@@ -53,4 +47,4 @@ returns-3 c =
 
 pub loss-refusal-spec : {M : Type 1} → statement M
 loss-refusal-spec =
-    tie.close (tie.spec pool-refusal-requires returns tranche-refusal-requires returns-2 store-refusal-requires returns-3)
+    tie.close (tie.spec (λ c κs. search needs) returns (λ c κs. search needs) returns-2 store-refusal-requires returns-3)

@@ -17,9 +17,6 @@ first c = assetsGround (c .before .args .n) ∷ []
 abbrev rest : tie.After-assets-refusal → List Ground
 rest c = probabilityGround (c .before .args .p) ∷ correlationGround (c .before .args .rho) ∷ []
 
-assets-refusal-requires : tie.Need-assets-refusal-requires
-assets-refusal-requires c κs = search needs
-
 returns : tie.Need-returns
 unfolding poolGrounds assetsGround
 returns c =
@@ -48,4 +45,4 @@ returns-4 c =
     (rw (le-ltb whole (tried .before .args .p) (omega arith), le-ltb whole (tried .before .args .rho) (omega arith)) refl)
 
 pub pool-refusal-spec : {M : Type 1} → statement M
-pool-refusal-spec = tie.close (tie.spec assets-refusal-requires returns returns-2 returns-3 returns-4)
+pool-refusal-spec = tie.close (tie.spec (λ c κs. search needs) returns returns-2 returns-3 returns-4)

@@ -16,9 +16,6 @@ first c = assetsGround (c .before .args .n) ∷ []
 abbrev rest : tie.After-assets-refusal → List Ground
 rest c = storeGround (c .before .args .n) (c .before .args .length ∷ []) ∷ rowGround (c .before .args .n) (c .before .args .k) ∷ []
 
-assets-refusal-requires : tie.Need-assets-refusal-requires
-assets-refusal-requires c κs = search needs
-
 returns : tie.Need-returns
 unfolding rowGrounds assetsGround
 returns c =
@@ -53,4 +50,4 @@ returns-4 c =
 
 pub row-refusal-spec : {M : Type 1} → statement M
 row-refusal-spec =
-    tie.close (tie.spec assets-refusal-requires returns store-places-requires returns-2 returns-3 returns-4)
+    tie.close (tie.spec (λ c κs. search needs) returns store-places-requires returns-2 returns-3 returns-4)

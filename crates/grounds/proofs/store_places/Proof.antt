@@ -9,12 +9,6 @@ use Rattle.grounds.specs.Grounds.{storePlaces}
 use Rattle.grounds.proofs.store_places.Statement.{statement}
 use Rattle.grounds.proofs.store_places.Tie as tie
 
-add-result : tie.Need-add-result
-add-result c = search needs
-
-add-result-2 : tie.Need-add-result-2
-add-result-2 c = search needs
-
 mul-result : tie.Need-mul-result
 unfolding largestPool
 mul-result c =
@@ -23,9 +17,6 @@ mul-result c =
     let second : n + 2 ≤ 66 = omega arith in
     omega (arith, mul-le-mul first second)
 
-returns : tie.Need-returns
-unfolding storePlaces
-returns c = omega arith
-
 pub store-places-spec : {M : Type 1} → statement M
-store-places-spec = tie.close (tie.spec add-result add-result-2 mul-result returns)
+unfolding storePlaces
+store-places-spec = tie.close (tie.spec (λ c. search needs) (λ c. search needs) mul-result (λ c. omega arith))

@@ -8,9 +8,6 @@ use Rattle.grounds.specs.Grounds.{firstGround, storeGround, someShorter,
 use Rattle.grounds.proofs.store_refusal.Statement.{statement}
 use Rattle.grounds.proofs.store_refusal.Tie as tie
 
-store-places-requires : tie.Need-store-places-requires
-store-places-requires c κs = search needs
-
 returns : tie.Need-returns
 unfolding firstGround storeGround someShorter
 returns c =
@@ -57,4 +54,4 @@ returns-5 c =
     ) refl
 
 pub store-refusal-spec : {M : Type 1} → statement M
-store-refusal-spec = tie.close (tie.spec store-places-requires returns returns-2 returns-3 returns-4 returns-5)
+store-refusal-spec = tie.close (tie.spec (λ c κs. search needs) returns returns-2 returns-3 returns-4 returns-5)

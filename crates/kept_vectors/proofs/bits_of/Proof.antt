@@ -41,15 +41,6 @@ not-nan nan is = is .exact
 not-nan (inf s) is = tt
 not-nan (fin s m e) is = tt
 
-is-below-shown-requires : tie.Need-is-below-shown-requires
-is-below-shown-requires c κs = search needs
-
-returns : tie.Need-returns
-returns c = search needs
-
-returns-2 : tie.Need-returns-2
-returns-2 c = search needs
-
 to-f64-requires : tie.Need-to-f64-requires
 to-f64-requires c κs =
     let asked = c .before .before .before .before in
@@ -66,10 +57,7 @@ to-f64-requires c κs =
 float-to-bits-t5 : tie.Need-float-to-bits-t5
 float-to-bits-t5 c = not-nan _ (c .to-f64 .ensures)
 
-returns-3 : tie.Need-returns-3
-returns-3 c = search needs
-
 pub bits-of-spec : {M : Type 1} → statement M
 bits-of-spec =
     tie.close
-    (tie.spec is-below-shown-requires returns returns-2 to-f64-requires float-to-bits-t5 returns-3)
+    (tie.spec (λ c κs. search needs) (λ c. search needs) (λ c. search needs) to-f64-requires float-to-bits-t5 (λ c. search needs))

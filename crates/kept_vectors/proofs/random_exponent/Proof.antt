@@ -18,8 +18,5 @@ sub-result c =
     rw (toZ-ofZ {z = pos (c .args .n % 1281)} (cast-result c))
     (reach-fits (lit< tt) (reach-minus (reach-whole {n = c .args .n % 1281} {m = 1280} (omega arith)) (reach-whole {n = 1140} {m = 1140} (lit≤ tt))))
 
-returns : tie.Need-returns
-returns c = search needs
-
 pub random-exponent-spec : {M : Type 1} → statement M
-random-exponent-spec = tie.close (tie.spec cast-result sub-result returns)
+random-exponent-spec = tie.close (tie.spec cast-result sub-result (λ c. search needs))

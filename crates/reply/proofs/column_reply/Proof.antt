@@ -21,27 +21,6 @@ pool-refusal : (c : tie.After-column) → c .column .result ≡ firstGround (poo
 unfolding triangle largestPool store lengths
 pool-refusal c = refused-as-pool (c .column .ensures) (lit≤ tt, (lit≤ tt, (lit≤ tt, (lit≤ tt, tt)))) (lit< tt)
 
-slice-aggregate-column : tie.Need-slice-aggregate-column
-slice-aggregate-column c = search needs
-
-slice-aggregate-column-2 : tie.Need-slice-aggregate-column-2
-slice-aggregate-column-2 c = search needs
-
-slice-aggregate-column-3 : tie.Need-slice-aggregate-column-3
-slice-aggregate-column-3 c = search needs
-
-slice-aggregate-column-4 : tie.Need-slice-aggregate-column-4
-slice-aggregate-column-4 c = search needs
-
-slice-aggregate-column-5 : tie.Need-slice-aggregate-column-5
-slice-aggregate-column-5 c = search needs
-
-column-requires : tie.Need-column-requires
-column-requires c κs = search needs
-
-slice-aggregate-write-refused : tie.Need-slice-aggregate-write-refused
-slice-aggregate-write-refused c = search needs
-
 write-refused-requires : tie.Need-write-refused-requires
 write-refused-requires c κs =
     let printed = c .before .before .before .before .before .before .before in
@@ -51,12 +30,6 @@ returns : tie.Need-returns
 returns c =
     let branch = c .before .before .before in
     carried (c .before .write-refused .ensures) (refused-answer (pool-refusal (branch .before .before .before .before .before .before)) (branch .if1 .taken))
-
-slice-aggregate-write-table : tie.Need-slice-aggregate-write-table
-slice-aggregate-write-table c = search needs
-
-slice-aggregate-write-table-2 : tie.Need-slice-aggregate-write-table-2
-slice-aggregate-write-table-2 c = search needs
 
 -- No ground applies.
 none : (c : tie.Else1) → let args = start (c .before .before .before .before .before .before) .args in firstGround (poolGrounds (args .n) (args .p) (args .rho)) ≡ 0
@@ -80,16 +53,16 @@ pub column-reply-spec : {M : Type 1} → statement M
 column-reply-spec =
     tie.close
     (tie.spec
-    slice-aggregate-column
-    slice-aggregate-column-2
-    slice-aggregate-column-3
-    slice-aggregate-column-4
-    slice-aggregate-column-5
-    column-requires
-    slice-aggregate-write-refused
+    (λ c. search needs)
+    (λ c. search needs)
+    (λ c. search needs)
+    (λ c. search needs)
+    (λ c. search needs)
+    (λ c κs. search needs)
+    (λ c. search needs)
     write-refused-requires
     returns
-    slice-aggregate-write-table
-    slice-aggregate-write-table-2
+    (λ c. search needs)
+    (λ c. search needs)
     write-table-requires
     returns-2)

@@ -7,24 +7,6 @@ use Rattle.reply.specs.Reply.Laws.{carried, line-answer, no-line-answer}
 use Rattle.reply.proofs.reply_to.Statement.{statement}
 use Rattle.reply.proofs.reply_to.Tie as tie
 
-read-line-requires : tie.Need-read-line-requires
-read-line-requires c κs = search needs
-
-enum-known-n : tie.Need-enum-known-n
-enum-known-n c = search needs
-
-column-reply-requires : tie.Need-column-reply-requires
-column-reply-requires c κs = search needs
-
-enum-told : tie.Need-enum-told
-enum-told c = search needs
-
-slice-aggregate-write-refused-line : tie.Need-slice-aggregate-write-refused-line
-slice-aggregate-write-refused-line c = search needs
-
-write-refused-line-requires : tie.Need-write-refused-line-requires
-write-refused-line-requires c κs = search needs
-
 returns : tie.Need-returns
 returns c =
     let reply = c .column-reply .ensures in
@@ -45,11 +27,11 @@ pub reply-to-spec : {M : Type 1} → statement M
 reply-to-spec =
     tie.close
     (tie.spec
-    read-line-requires
-    enum-known-n
-    column-reply-requires
-    enum-told
-    slice-aggregate-write-refused-line
-    write-refused-line-requires
+    (λ c κs. search needs)
+    (λ c. search needs)
+    (λ c κs. search needs)
+    (λ c. search needs)
+    (λ c. search needs)
+    (λ c κs. search needs)
     returns
     returns-2)

@@ -25,15 +25,8 @@ abbrev μ-loop : tie.MeasureT-loop
 μ-loop n p rho side significands₀ exponents₀ count correlation q g w₀ conditional₀ joint₀ at₀ k₀ significands exponents w conditional joint at k =
     count - k
 
-sub-from-basis-points : tie.Need-sub-from-basis-points Inv-loop μ-loop
-unfolding whole
-sub-from-basis-points c = omega arith
-
 weights-requires : tie.Need-weights-requires Inv-loop μ-loop
 weights-requires c κs = c .before .before .before .pre .range
-
-array-set-from-w : tie.Need-array-set-from-w Inv-loop μ-loop
-array-set-from-w c = omega arith
 
 loop-holds : tie.Need-loop-holds Inv-loop μ-loop
 unfolding workingPlaces largestPool constant complement whole keptRow keptConditional keptJoint
@@ -100,10 +93,6 @@ add-w c = omega (arith, small (turn (c .before .before)))
 mul-w : tie.Need-mul-w Inv-loop μ-loop
 mul-w c = omega (arith, small (turn (c .before .before)))
 
-array-set-from-w-2 : tie.Need-array-set-from-w-2 Inv-loop μ-loop
-unfolding largestPool
-array-set-from-w-2 c = omega arith
-
 product-requires : tie.Need-product-requires Inv-loop μ-loop
 product-requires c κs =
     let known = next-operands (turn (c .before .before) .loop .inv .0) in
@@ -122,9 +111,6 @@ product-requires-2 c κs =
 
 add-k : tie.Need-add-k Inv-loop μ-loop
 add-k c = omega (arith, small (turn (c .before .before .before .before .before)))
-
-loop-less : tie.Need-loop-less Inv-loop μ-loop
-loop-less c = omega arith
 
 loop-again : tie.Need-loop-again Inv-loop μ-loop
 loop-again c =
@@ -174,18 +160,19 @@ returns c =
     filling-all (filling-more filling (at-row .within) (at-row .entry) (c0 .store2 .ensures)) (at-row .entry)
 
 pub fill-side-spec : {M : Type 1} → statement M
+unfolding whole largestPool
 fill-side-spec =
     tie.close
     (tie.spec
     Inv-loop
     μ-loop
     (λ c κs. tt)
-    sub-from-basis-points
+    (λ c. omega arith)
     (λ c κs. tt)
     weights-requires
     (λ c κs. tt)
     (λ c κs. tt)
-    array-set-from-w
+    (λ c. omega arith)
     (λ c κs. tt)
     loop-holds
     add-store
@@ -197,12 +184,12 @@ fill-side-spec =
     weighted-requires
     add-w
     mul-w
-    array-set-from-w-2
+    (λ c. omega arith)
     product-requires
     sum-requires
     product-requires-2
     add-k
-    loop-less
+    (λ c. omega arith)
     loop-again
     add-store-2
     store-requires-2

@@ -30,31 +30,8 @@ loop-holds : tie.Need-loop-holds Inv-loop2 μ-loop2 Inv-loop μ-loop
 unfolding passed
 loop-holds c = (record { made = λ f entries. entries }, omega arith)
 
-sub-j-end : tie.Need-sub-j-end Inv-loop2 μ-loop2 Inv-loop μ-loop
-sub-j-end c = omega arith
-
 loop2-holds : tie.Need-loop2-holds Inv-loop2 μ-loop2 Inv-loop μ-loop
 loop2-holds c = (changed-none, omega arith)
-
-mul-x : tie.Need-mul-x Inv-loop2 μ-loop2 Inv-loop μ-loop
-unfolding largestPool
-mul-x c = omega arith
-
-array-copy-out-x : tie.Need-array-copy-out-x Inv-loop2 μ-loop2 Inv-loop μ-loop
-unfolding largestPool
-array-copy-out-x c = omega arith
-
-add-y : tie.Need-add-y Inv-loop2 μ-loop2 Inv-loop μ-loop
-unfolding largestPool
-add-y c = omega arith
-
-mul-y : tie.Need-mul-y Inv-loop2 μ-loop2 Inv-loop μ-loop
-unfolding largestPool
-mul-y c = omega arith
-
-array-copy-out-y : tie.Need-array-copy-out-y Inv-loop2 μ-loop2 Inv-loop μ-loop
-unfolding largestPool
-array-copy-out-y c = omega arith
 
 product-requires : tie.Need-product-requires Inv-loop2 μ-loop2 Inv-loop μ-loop
 unfolding nought
@@ -76,20 +53,6 @@ sum-requires c κs =
     let operands = pass-operands (pass .loop .s) (pass .before .pre) (pass .loop .inv .0) (turn .loop2 .inv .0) in
     (operands j (omega arith) (omega arith) .0, rw (c .product .ensures) (operands (j + 1) (omega arith) (omega arith) .1))
 
-mul-w : tie.Need-mul-w Inv-loop2 μ-loop2 Inv-loop μ-loop
-unfolding largestPool
-mul-w c = omega arith
-
-array-set-from-w : tie.Need-array-set-from-w Inv-loop2 μ-loop2 Inv-loop μ-loop
-unfolding largestPool
-array-set-from-w c = omega arith
-
-add-j : tie.Need-add-j Inv-loop2 μ-loop2 Inv-loop μ-loop
-add-j c = omega arith
-
-loop2-less : tie.Need-loop2-less Inv-loop2 μ-loop2 Inv-loop μ-loop
-loop2-less c = omega arith
-
 loop2-again : tie.Need-loop2-again Inv-loop2 μ-loop2 Inv-loop μ-loop
 unfolding nought largestPool workingPlaces passEach roundedPassStep
 loop2-again c =
@@ -108,12 +71,6 @@ loop2-again c =
       omega arith,
     )
 
-add-s : tie.Need-add-s Inv-loop2 μ-loop2 Inv-loop μ-loop
-add-s c = omega arith
-
-loop-less : tie.Need-loop-less Inv-loop2 μ-loop2 Inv-loop μ-loop
-loop-less c = omega arith
-
 loop-again : tie.Need-loop-again Inv-loop2 μ-loop2 Inv-loop μ-loop
 loop-again c =
     let pass = c .before .before .before in
@@ -126,6 +83,7 @@ returns c =
     rw all at (c .before .loop .inv .0)
 
 pub passes-spec : {M : Type 1} → statement M
+unfolding largestPool
 passes-spec =
     tie.close
     (tie.spec
@@ -134,21 +92,21 @@ passes-spec =
     Inv-loop
     μ-loop
     loop-holds
-    sub-j-end
+    (λ c. omega arith)
     loop2-holds
-    mul-x
-    array-copy-out-x
-    add-y
-    mul-y
-    array-copy-out-y
+    (λ c. omega arith)
+    (λ c. omega arith)
+    (λ c. omega arith)
+    (λ c. omega arith)
+    (λ c. omega arith)
     product-requires
     sum-requires
-    mul-w
-    array-set-from-w
-    add-j
-    loop2-less
+    (λ c. omega arith)
+    (λ c. omega arith)
+    (λ c. omega arith)
+    (λ c. omega arith)
     loop2-again
-    add-s
-    loop-less
+    (λ c. omega arith)
+    (λ c. omega arith)
     loop-again
     returns)

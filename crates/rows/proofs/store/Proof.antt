@@ -52,37 +52,11 @@ lengths c =
       written-length (λ x. x .exponent) row at (c .loop .j) _ (inv .exponents) (omega arith) (omega arith),
     )
 
-mul-x : tie.Need-mul-x Inv-loop μ-loop
-unfolding workingPlaces largestPool
-mul-x c = omega arith
-
-array-copy-out-x : tie.Need-array-copy-out-x Inv-loop μ-loop
-unfolding workingPlaces largestPool
-array-copy-out-x c = omega arith
-
-add-significands : tie.Need-add-significands Inv-loop μ-loop
-add-significands c = omega arith
-
-mul-significands : tie.Need-mul-significands Inv-loop μ-loop
-mul-significands c = omega arith
-
 slice-write-significands : tie.Need-slice-write-significands Inv-loop μ-loop
 slice-write-significands c = omega (arith, lengths (c .before .before .before) .0)
 
-add-e : tie.Need-add-e Inv-loop μ-loop
-add-e c = omega arith
-
-mul-e : tie.Need-mul-e Inv-loop μ-loop
-mul-e c = omega arith
-
 slice-set-from-e : tie.Need-slice-set-from-e Inv-loop μ-loop
 slice-set-from-e c = omega (arith, lengths (c .before .before .before) .1)
-
-add-j : tie.Need-add-j Inv-loop μ-loop
-add-j c = omega arith
-
-loop-less : tie.Need-loop-less Inv-loop μ-loop
-loop-less c = omega arith
 
 fits : (c : tie.After-struct-told Inv-loop μ-loop)
     → SFits w32 (getD (c .before .before .before .before .args .t1) (c .before .before .before .loop .j) nought .exponent)
@@ -118,22 +92,23 @@ returns c =
     rw all at (c .before .loop .inv .0)
 
 pub store-spec : {M : Type 1} → statement M
+unfolding workingPlaces largestPool
 store-spec =
     tie.close
     (tie.spec
     Inv-loop
     μ-loop
     loop-holds
-    mul-x
-    array-copy-out-x
-    add-significands
-    mul-significands
+    (λ c. omega arith)
+    (λ c. omega arith)
+    (λ c. omega arith)
+    (λ c. omega arith)
     slice-write-significands
-    add-e
-    mul-e
+    (λ c. omega arith)
+    (λ c. omega arith)
     slice-set-from-e
-    add-j
-    loop-less
+    (λ c. omega arith)
+    (λ c. omega arith)
     loop-again
     same-length
     same-length-2

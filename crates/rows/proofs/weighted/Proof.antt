@@ -21,22 +21,6 @@ abbrev μ-loop : tie.MeasureT-loop
 loop-holds : tie.Need-loop-holds Inv-loop μ-loop
 loop-holds c = (changed-none, omega arith)
 
-mul-x : tie.Need-mul-x Inv-loop μ-loop
-unfolding workingPlaces largestPool
-mul-x c = omega arith
-
-array-copy-out-x : tie.Need-array-copy-out-x Inv-loop μ-loop
-unfolding workingPlaces largestPool
-array-copy-out-x c = omega arith
-
-mul-g : tie.Need-mul-g Inv-loop μ-loop
-unfolding workingPlaces largestPool
-mul-g c = omega arith
-
-array-copy-out-g : tie.Need-array-copy-out-g Inv-loop μ-loop
-unfolding workingPlaces largestPool
-array-copy-out-g c = omega arith
-
 product-requires : tie.Need-product-requires Inv-loop μ-loop
 unfolding nought
 product-requires c κs =
@@ -44,20 +28,6 @@ product-requires c κs =
     let j = turn .loop .j in
     let l = c .before .before .loop-test .taken in
     (rw (turn .loop .inv .0 .old j (le-refl j) l) (turn .before .pre .entry j l), turn .before .pre .weight j l)
-
-mul-w : tie.Need-mul-w Inv-loop μ-loop
-unfolding workingPlaces largestPool
-mul-w c = omega arith
-
-array-set-from-w : tie.Need-array-set-from-w Inv-loop μ-loop
-unfolding workingPlaces largestPool
-array-set-from-w c = omega arith
-
-add-j : tie.Need-add-j Inv-loop μ-loop
-add-j c = omega arith
-
-loop-less : tie.Need-loop-less Inv-loop μ-loop
-loop-less c = omega arith
 
 loop-again : tie.Need-loop-again Inv-loop μ-loop
 unfolding nought
@@ -73,20 +43,21 @@ returns c =
     changed-all (rw all at (c .before .loop .inv .0))
 
 pub weighted-spec : {M : Type 1} → statement M
+unfolding workingPlaces largestPool
 weighted-spec =
     tie.close
     (tie.spec
     Inv-loop
     μ-loop
     loop-holds
-    mul-x
-    array-copy-out-x
-    mul-g
-    array-copy-out-g
+    (λ c. omega arith)
+    (λ c. omega arith)
+    (λ c. omega arith)
+    (λ c. omega arith)
     product-requires
-    mul-w
-    array-set-from-w
-    add-j
-    loop-less
+    (λ c. omega arith)
+    (λ c. omega arith)
+    (λ c. omega arith)
+    (λ c. omega arith)
     loop-again
     returns)

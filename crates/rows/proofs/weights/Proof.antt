@@ -30,14 +30,6 @@ Inv-loop p rho n side a q w₀ power₀ j₀ w power j = Weighing side p rho n j
 abbrev μ-loop : tie.MeasureT-loop
 μ-loop p rho n side a q w₀ power₀ j₀ w power j = n - j
 
-sub-from-basis-points : tie.Need-sub-from-basis-points Inv-loop μ-loop
-unfolding whole
-sub-from-basis-points c = omega arith
-
-sub-from-basis-points-2 : tie.Need-sub-from-basis-points-2 Inv-loop μ-loop
-unfolding whole
-sub-from-basis-points-2 c = omega arith
-
 loop-holds : tie.Need-loop-holds Inv-loop μ-loop
 unfolding workingPlaces largestPool keptPower
 loop-holds c = record {
@@ -57,25 +49,11 @@ product-requires c κs =
     let known = c .before .before .before .before .before in
     (rw (known .from-basis-points .ensures) (row-operand (known .before .pre) is-a), power c)
 
-mul-w : tie.Need-mul-w Inv-loop μ-loop
-unfolding largestPool
-mul-w c = omega arith
-
-array-set-from-w : tie.Need-array-set-from-w Inv-loop μ-loop
-unfolding largestPool
-array-set-from-w c = omega arith
-
 product-requires-2 : tie.Need-product-requires-2 Inv-loop μ-loop
 unfolding constant complement whole
 product-requires-2 c κs =
     let known = c .before .before .before .before .before in
     (power (c .before), rw (known .from-basis-points2 .ensures) (row-operand (known .before .before .pre) is-q))
-
-add-j : tie.Need-add-j Inv-loop μ-loop
-add-j c = omega arith
-
-loop-less : tie.Need-loop-less Inv-loop μ-loop
-loop-less c = omega arith
 
 loop-again : tie.Need-loop-again Inv-loop μ-loop
 unfolding workingPlaces keptWeight keptPower constant complement whole
@@ -96,23 +74,24 @@ returns c =
     rw (← all) (inv .stored)
 
 pub weights-spec : {M : Type 1} → statement M
+unfolding whole largestPool
 weights-spec =
     tie.close
     (tie.spec
     Inv-loop
     μ-loop
-    sub-from-basis-points
+    (λ c. omega arith)
     (λ c κs. tt)
-    sub-from-basis-points-2
+    (λ c. omega arith)
     (λ c κs. tt)
     (λ c κs. tt)
     (λ c κs. tt)
     loop-holds
     product-requires
-    mul-w
-    array-set-from-w
+    (λ c. omega arith)
+    (λ c. omega arith)
     product-requires-2
-    add-j
-    loop-less
+    (λ c. omega arith)
+    (λ c. omega arith)
     loop-again
     returns)

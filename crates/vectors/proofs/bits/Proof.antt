@@ -17,11 +17,5 @@ not-nan (fin s m e) same = tt
 float-to-bits-result : tie.Need-float-to-bits-result
 float-to-bits-result c = not-nan _ (c .if1 .taken)
 
-returns : tie.Need-returns
-returns c = search needs
-
-returns-2 : tie.Need-returns-2
-returns-2 c = search needs
-
 pub bits-spec : {M : Type 1} → statement M
-bits-spec = tie.close (tie.spec float-to-bits-result returns returns-2)
+bits-spec = tie.close (tie.spec float-to-bits-result (λ c. search needs) (λ c. search needs))

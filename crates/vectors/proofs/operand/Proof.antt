@@ -8,14 +8,8 @@ use Rattle.kept.specs.Rounding.{Operand, nought}
 use Rattle.vectors.proofs.operand.Statement.{statement}
 use Rattle.vectors.proofs.operand.Tie as tie
 
-magnitude-requires : tie.Need-magnitude-requires
-magnitude-requires c κs = search needs
-
 returns : tie.Need-returns
 returns c = record { kept = record { form = inr (omega arith) }; reach = omega arith }
-
-zero-requires : tie.Need-zero-requires
-zero-requires c κs = search needs
 
 returns-2 : tie.Need-returns-2
 unfolding nought
@@ -23,4 +17,4 @@ returns-2 c =
     subst Operand (sym (c .zero .ensures)) (record { kept = record { form = inl refl }; reach = omega arith })
 
 pub operand-spec : {M : Type 1} → statement M
-operand-spec = tie.close (tie.spec magnitude-requires returns zero-requires returns-2)
+operand-spec = tie.close (tie.spec (λ c κs. search needs) returns (λ c κs. search needs) returns-2)

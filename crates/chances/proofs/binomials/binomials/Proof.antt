@@ -21,12 +21,6 @@ loop-holds c = (omega arith, binomials-none)
 next-binomials-requires : tie.Need-next-binomials-requires Inv-loop μ-loop
 next-binomials-requires c κs = (c .before .loop .inv .1, omega arith)
 
-add-k : tie.Need-add-k Inv-loop μ-loop
-add-k c = omega arith
-
-loop-less : tie.Need-loop-less Inv-loop μ-loop
-loop-less c = omega arith
-
 loop-again : tie.Need-loop-again Inv-loop μ-loop
 loop-again c = (omega arith, rw add-one (c .next-binomials .ensures))
 
@@ -36,4 +30,4 @@ returns c = let done : c .before .loop .k ≡ c .before .before .args .n = omega
 pub binomials-spec : {M : Type 1} → statement M
 binomials-spec =
     tie.close
-    (tie.spec Inv-loop μ-loop loop-holds next-binomials-requires add-k loop-less loop-again returns)
+    (tie.spec Inv-loop μ-loop loop-holds next-binomials-requires (λ c. omega arith) (λ c. omega arith) loop-again returns)

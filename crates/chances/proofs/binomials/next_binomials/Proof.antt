@@ -18,40 +18,10 @@ loop-holds : tie.Need-loop-holds Inv-loop μ-loop
 unfolding largestPool
 loop-holds c = (omega arith, omega arith, binomials-first (c .pre .1))
 
-mul-next : tie.Need-mul-next Inv-loop μ-loop
-mul-next c = omega arith
-
-array-read-next : tie.Need-array-read-next Inv-loop μ-loop
-array-read-next c = omega arith
-
-add-next : tie.Need-add-next Inv-loop μ-loop
-add-next c = omega arith
-
-mul-next-2 : tie.Need-mul-next-2 Inv-loop μ-loop
-mul-next-2 c = omega arith
-
-array-read-next-2 : tie.Need-array-read-next-2 Inv-loop μ-loop
-array-read-next-2 c = omega arith
-
 add-next-2 : tie.Need-add-next-2 Inv-loop μ-loop
 add-next-2 c =
     let start = c .before .before in
     record { fits = pascal-word (start .pre .1) (start .pre .0) (c .before .loop .j) (c .loop-test .taken) }
-
-add-next-3 : tie.Need-add-next-3 Inv-loop μ-loop
-add-next-3 c = omega arith
-
-mul-next-3 : tie.Need-mul-next-3 Inv-loop μ-loop
-mul-next-3 c = omega arith
-
-array-write-next : tie.Need-array-write-next Inv-loop μ-loop
-array-write-next c = omega arith
-
-add-j : tie.Need-add-j Inv-loop μ-loop
-add-j c = omega arith
-
-loop-less : tie.Need-loop-less Inv-loop μ-loop
-loop-less c = omega arith
 
 loop-again : tie.Need-loop-again Inv-loop μ-loop
 loop-again c =
@@ -70,16 +40,16 @@ next-binomials-spec =
     Inv-loop
     μ-loop
     loop-holds
-    mul-next
-    array-read-next
-    add-next
-    mul-next-2
-    array-read-next-2
+    (λ c. omega arith)
+    (λ c. omega arith)
+    (λ c. omega arith)
+    (λ c. omega arith)
+    (λ c. omega arith)
     add-next-2
-    add-next-3
-    mul-next-3
-    array-write-next
-    add-j
-    loop-less
+    (λ c. omega arith)
+    (λ c. omega arith)
+    (λ c. omega arith)
+    (λ c. omega arith)
+    (λ c. omega arith)
     loop-again
     returns)

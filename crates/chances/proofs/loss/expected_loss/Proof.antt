@@ -20,34 +20,12 @@ Inv-loop n recovery lower upper side chances total₀ end x₀ total x =
 abbrev μ-loop : tie.MeasureT-loop
 μ-loop n recovery lower upper side chances total₀ end x₀ total x = suc n - x
 
-zero-requires : tie.Need-zero-requires Inv-loop μ-loop
-zero-requires c κs = tt
-
-add-end : tie.Need-add-end Inv-loop μ-loop
-unfolding largestPool
-add-end c = omega arith
-
 loop-holds : tie.Need-loop-holds Inv-loop μ-loop
 unfolding largestPool
 loop-holds c = (omega arith, omega arith, terms-none (c .before .pre) (c .zero .ensures))
 
 loss-units-requires : tie.Need-loss-units-requires Inv-loop μ-loop
 loss-units-requires c κs = (c .before .before .before .pre .tranche, omega arith)
-
-cast-units : tie.Need-cast-units Inv-loop μ-loop
-cast-units c = search needs
-
-from-integer-requires : tie.Need-from-integer-requires Inv-loop μ-loop
-from-integer-requires c κs = tt
-
-cast-product : tie.Need-cast-product Inv-loop μ-loop
-cast-product c = omega arith
-
-mul-product : tie.Need-mul-product Inv-loop μ-loop
-mul-product c = omega arith
-
-array-copy-out-product : tie.Need-array-copy-out-product Inv-loop μ-loop
-array-copy-out-product c = omega arith
 
 product-requires : tie.Need-product-requires Inv-loop μ-loop
 unfolding nought
@@ -68,12 +46,6 @@ sum-requires c κs =
       term-operand ready (at-loop .loop .x) (omega arith) (units .loss-units .ensures) (c .before .before .from-integer .ensures) (c .product .ensures),
     )
 
-add-x : tie.Need-add-x Inv-loop μ-loop
-add-x c = omega arith
-
-loop-less : tie.Need-loop-less Inv-loop μ-loop
-loop-less c = omega arith
-
 loop-again : tie.Need-loop-again Inv-loop μ-loop
 unfolding nought
 loop-again c =
@@ -84,9 +56,6 @@ loop-again c =
     (units .loss-units .ensures) (c .before .before .before .from-integer .ensures) (c .before .product .ensures)
     (at-loop .loop .inv .2) (c .sum .ensures) in
     (omega arith, omega arith, next)
-
-sub-quotient : tie.Need-sub-quotient Inv-loop μ-loop
-sub-quotient c = omega arith
 
 mul-quotient : tie.Need-mul-quotient Inv-loop μ-loop
 unfolding whole
@@ -108,26 +77,27 @@ returns : tie.Need-returns Inv-loop μ-loop
 returns c = loss-made (c .before .before .before .before .pre) (whole-total (c .before)) (c .quotient .ensures)
 
 pub expected-loss-spec : {M : Type 1} → statement M
+unfolding largestPool
 expected-loss-spec =
     tie.close
     (tie.spec
     Inv-loop
     μ-loop
-    zero-requires
-    add-end
+    (λ c κs. tt)
+    (λ c. omega arith)
     loop-holds
     loss-units-requires
-    cast-units
-    from-integer-requires
-    cast-product
-    mul-product
-    array-copy-out-product
+    (λ c. search needs)
+    (λ c κs. tt)
+    (λ c. omega arith)
+    (λ c. omega arith)
+    (λ c. omega arith)
     product-requires
     sum-requires
-    add-x
-    loop-less
+    (λ c. omega arith)
+    (λ c. omega arith)
     loop-again
-    sub-quotient
+    (λ c. omega arith)
     mul-quotient
     quotient-requires
     returns)

@@ -10,10 +10,6 @@ use Rattle.chances.specs.Loss.Laws.{basis-points-word, loss-units-cut}
 use Rattle.chances.proofs.loss.loss_units.Statement.{statement}
 use Rattle.chances.proofs.loss.loss_units.Tie as tie
 
-sub-lost : tie.Need-sub-lost
-unfolding whole
-sub-lost c = omega arith
-
 mul-lost : tie.Need-mul-lost
 unfolding whole largestPool
 mul-lost c = record { fits = basis-points-word (omega arith) (omega arith) }
@@ -43,4 +39,5 @@ returns-2 c =
     rw (loss-units-cut (args .n) (args .recovery) (args .lower) (args .upper) (args .defaults) (omega arith)) (omega (arith, cut (c .before .before)))
 
 pub loss-units-spec : {M : Type 1} → statement M
-loss-units-spec = tie.close (tie.spec sub-lost mul-lost mul-most mul-least returns returns-2)
+unfolding whole
+loss-units-spec = tie.close (tie.spec (λ c. omega arith) mul-lost mul-most mul-least returns returns-2)

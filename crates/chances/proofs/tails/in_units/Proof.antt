@@ -41,12 +41,6 @@ shift : (c : tie.Else1)
     → toZ w32 (ofZ w32 (pos 0 -ℤ toZ w32 (ofZ w32 (c .before .before .before .args .x .exponent)))) ≡ pos (fractional (c .before .before .before) .places)
 shift c = rw (negated c) (toZ-ofZ (negated-fits c))
 
-cast-result : tie.Need-cast-result
-cast-result c = search needs
-
-mul-result : tie.Need-mul-result
-mul-result c = search needs
-
 sub-result : tie.Need-sub-result
 sub-result c = rw (negated (c .before .before .before)) (negated-fits (c .before .before .before))
 
@@ -76,8 +70,8 @@ in-units-spec =
     tie.close
     (tie.spec
     returns
-    cast-result
-    mul-result
+    (λ c. search needs)
+    (λ c. search needs)
     sub-result
     cast-result-2
     cast-result-3

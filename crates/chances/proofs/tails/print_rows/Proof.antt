@@ -17,44 +17,14 @@ abbrev μ-loop : tie.MeasureT-loop
 printed-tails-requires : tie.Need-printed-tails-requires Inv-loop μ-loop
 printed-tails-requires c κs = c .before .pre .0
 
-add-places : tie.Need-add-places Inv-loop μ-loop
-add-places c = omega arith
-
 loop-holds : tie.Need-loop-holds Inv-loop μ-loop
 unfolding largestPool
 loop-holds c = (omega arith, omega arith, differences-none)
-
-mul-units : tie.Need-mul-units Inv-loop μ-loop
-mul-units c = omega arith
-
-array-read-units : tie.Need-array-read-units Inv-loop μ-loop
-array-read-units c = omega arith
-
-add-units : tie.Need-add-units Inv-loop μ-loop
-add-units c = omega arith
-
-mul-units-2 : tie.Need-mul-units-2 Inv-loop μ-loop
-mul-units-2 c = omega arith
-
-array-read-units-2 : tie.Need-array-read-units-2 Inv-loop μ-loop
-array-read-units-2 c = omega arith
 
 sub-units : tie.Need-sub-units Inv-loop μ-loop
 sub-units c =
     let after = c .before .before in
     tails-fall (after .printed-tails .ensures) (after .before .before .pre .0) (c .before .loop .k) (omega arith)
-
-mul-units-3 : tie.Need-mul-units-3 Inv-loop μ-loop
-mul-units-3 c = omega arith
-
-slice-write-units : tie.Need-slice-write-units Inv-loop μ-loop
-slice-write-units c = omega arith
-
-add-k : tie.Need-add-k Inv-loop μ-loop
-add-k c = omega arith
-
-loop-less : tie.Need-loop-less Inv-loop μ-loop
-loop-less c = omega arith
 
 loop-again : tie.Need-loop-again Inv-loop μ-loop
 unfolding differenceAt
@@ -76,18 +46,18 @@ print-rows-spec =
     Inv-loop
     μ-loop
     printed-tails-requires
-    add-places
+    (λ c. omega arith)
     loop-holds
-    mul-units
-    array-read-units
-    add-units
-    mul-units-2
-    array-read-units-2
+    (λ c. omega arith)
+    (λ c. omega arith)
+    (λ c. omega arith)
+    (λ c. omega arith)
+    (λ c. omega arith)
     sub-units
-    mul-units-3
-    slice-write-units
-    add-k
-    loop-less
+    (λ c. omega arith)
+    (λ c. omega arith)
+    (λ c. omega arith)
+    (λ c. omega arith)
     loop-again
     same-length
     returns)

@@ -16,21 +16,9 @@ Inv-loop n chances tails₀ total₀ last i₀ tails total i = (n ≤ 64) × (i 
 abbrev μ-loop : tie.MeasureT-loop
 μ-loop n chances tails₀ total₀ last i₀ tails total i = n - i
 
-zero-requires : tie.Need-zero-requires Inv-loop μ-loop
-zero-requires c κs = tt
-
 loop-holds : tie.Need-loop-holds Inv-loop μ-loop
 unfolding largestPool
 loop-holds c = (omega arith, omega arith, tails-none (c .before .pre) (c .zero .ensures))
-
-sub-j : tie.Need-sub-j Inv-loop μ-loop
-sub-j c = omega arith
-
-mul-sum : tie.Need-mul-sum Inv-loop μ-loop
-mul-sum c = omega arith
-
-array-copy-out-sum : tie.Need-array-copy-out-sum Inv-loop μ-loop
-array-copy-out-sum c = omega arith
 
 sum-requires : tie.Need-sum-requires Inv-loop μ-loop
 unfolding nought
@@ -47,18 +35,6 @@ in-units-requires c κs =
     let at-loop = c .before .before .before in
     tail-printable (at-loop .before .before .pre) (at-loop .loop .inv .2) (c .before .before .loop-test .taken) (c .sum .ensures)
 
-mul-tails : tie.Need-mul-tails Inv-loop μ-loop
-mul-tails c = omega arith
-
-array-write-tails : tie.Need-array-write-tails Inv-loop μ-loop
-array-write-tails c = omega arith
-
-add-i : tie.Need-add-i Inv-loop μ-loop
-add-i c = omega arith
-
-loop-less : tie.Need-loop-less Inv-loop μ-loop
-loop-less c = omega arith
-
 loop-again : tie.Need-loop-again Inv-loop μ-loop
 unfolding nought
 loop-again c =
@@ -67,9 +43,6 @@ loop-again c =
     tails-next (at-loop .before .before .pre) (at-loop .loop .inv .2) (c .before .before .before .loop-test .taken)
     (c .before .sum .ensures) (c .in-units .ensures) in
     (omega arith, omega arith, next)
-
-array-write-tails-2 : tie.Need-array-write-tails-2 Inv-loop μ-loop
-array-write-tails-2 c = omega arith
 
 returns : tie.Need-returns Inv-loop μ-loop
 returns c =
@@ -82,17 +55,17 @@ printed-tails-spec =
     (tie.spec
     Inv-loop
     μ-loop
-    zero-requires
+    (λ c κs. tt)
     loop-holds
-    sub-j
-    mul-sum
-    array-copy-out-sum
+    (λ c. omega arith)
+    (λ c. omega arith)
+    (λ c. omega arith)
     sum-requires
     in-units-requires
-    mul-tails
-    array-write-tails
-    add-i
-    loop-less
+    (λ c. omega arith)
+    (λ c. omega arith)
+    (λ c. omega arith)
+    (λ c. omega arith)
     loop-again
-    array-write-tails-2
+    (λ c. omega arith)
     returns)

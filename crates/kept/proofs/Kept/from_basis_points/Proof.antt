@@ -11,9 +11,6 @@ use Rattle.kept.specs.Rounding.Arithmetic.{basis-points-scaled}
 use Rattle.kept.proofs.Kept.from_basis_points.Statement.{statement}
 use Rattle.kept.proofs.Kept.from_basis_points.Tie as tie
 
-ratio-requires : tie.Need-ratio-requires
-ratio-requires c κs = search needs
-
 returns : tie.Need-returns
 unfolding ofBasisPoints
 returns c =
@@ -23,4 +20,4 @@ returns c =
     is ∙ round-cong side (basis-points-scaled p (lit< tt))
 
 pub from-basis-points-spec : {M : Type 1} → statement M
-from-basis-points-spec = tie.close (tie.spec ratio-requires returns)
+from-basis-points-spec = tie.close (tie.spec (λ c κs. search needs) returns)

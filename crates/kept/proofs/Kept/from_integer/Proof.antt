@@ -7,12 +7,9 @@ use Rattle.kept.specs.Rounding.Arithmetic.{between-exact, integer-scaled
 use Rattle.kept.proofs.Kept.from_integer.Statement.{statement}
 use Rattle.kept.proofs.Kept.from_integer.Tie as tie
 
-keep-requires : tie.Need-keep-requires
-keep-requires c κs = search needs
-
 returns : tie.Need-returns
 unfolding ofInteger
 returns c = c .keep .ensures (integer (c .before .args .n)) (between-exact (integer-scaled (c .before .args .n)))
 
 pub from-integer-spec : {M : Type 1} → statement M
-from-integer-spec = tie.close (tie.spec keep-requires returns)
+from-integer-spec = tie.close (tie.spec (λ c κs. search needs) returns)

@@ -24,12 +24,6 @@ exponent : (c : tie.Start)
     → toZ w32 (ofZ w32 (c .args .self .exponent)) +ℤ toZ w32 (ofZ w32 (c .args .other .exponent)) ≡ c .args .self .exponent +ℤ c .args .other .exponent
 exponent c = rw (reach-back (lit< tt) (c .pre .0 .reach), reach-back (lit< tt) (c .pre .1 .reach))
 
-cast-v : tie.Need-cast-v
-cast-v c = search needs
-
-cast-v-2 : tie.Need-cast-v-2
-cast-v-2 c = search needs
-
 mul-v : tie.Need-mul-v
 mul-v c = record { fits = product-word (kept-below (c .before .before .pre .0 .kept)) (kept-below (c .before .before .pre .1 .kept)) }
 
@@ -51,4 +45,4 @@ returns c =
     (between-exact (same-sym (scaled-times (x .significand) (y .significand) (x .exponent) (y .exponent))))
 
 pub product-spec : {M : Type 1} → statement M
-product-spec = tie.close (tie.spec cast-v cast-v-2 mul-v add-keep keep-requires returns)
+product-spec = tie.close (tie.spec (λ c. search needs) (λ c. search needs) mul-v add-keep keep-requires returns)

@@ -7,15 +7,9 @@ use Rattle.kept.specs.Rounding.Exponents.{reach-back}
 use Rattle.kept.proofs.Kept.quotient.Statement.{statement}
 use Rattle.kept.proofs.Kept.quotient.Tie as tie
 
-cast-ratio : tie.Need-cast-ratio
-cast-ratio c = search needs
-
-ratio-requires : tie.Need-ratio-requires
-ratio-requires c κs = search needs
-
 returns : tie.Need-returns
 unfolding roundedQuotient
 returns c = rw (reach-back (lit< tt) (c .before .before .before .pre .0 .reach)) at (c .ratio .ensures)
 
 pub quotient-spec : {M : Type 1} → statement M
-quotient-spec = tie.close (tie.spec cast-ratio ratio-requires returns)
+quotient-spec = tie.close (tie.spec (λ c. search needs) (λ c κs. search needs) returns)

@@ -22,18 +22,6 @@ ordered c =
     let y-bits = reach-back (lit< tt) (place-addend (start .pre .1) .reach) in
     record { larger = rw (x, y, x-bits, y-bits) at (c .before .select .ensures); smaller = rw (x, y, x-bits, y-bits) at (c .select2 .ensures) }
 
-placed-requires : tie.Need-placed-requires
-placed-requires c κs = search needs
-
-placed-requires-2 : tie.Need-placed-requires-2
-placed-requires-2 c κs = search needs
-
-select-requires : tie.Need-select-requires
-select-requires c κs = search needs
-
-select-requires-2 : tie.Need-select-requires-2
-select-requires-2 c κs = search needs
-
 add-requires : tie.Need-add-requires
 add-requires c κs =
     let start = c .before .before .before .before .before .before .before .before in
@@ -43,4 +31,4 @@ returns : tie.Need-returns
 returns c = c .add .ensures ∙ ordered-sum (c .before .before .before .before .before .before .before .before .before .args .side) (ordered (c .before))
 
 pub sum-spec : {M : Type 1} → statement M
-sum-spec = tie.close (tie.spec placed-requires placed-requires-2 select-requires select-requires-2 add-requires returns)
+sum-spec = tie.close (tie.spec (λ c κs. search needs) (λ c κs. search needs) (λ c κs. search needs) (λ c κs. search needs) add-requires returns)

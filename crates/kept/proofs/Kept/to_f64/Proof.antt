@@ -16,9 +16,6 @@ exponent-fits c = search needs
 doublings-requires : tie.Need-doublings-requires
 doublings-requires c κs = rw (toZ-ofZ (exponent-fits c)) (shown-exponent (c .before .pre))
 
-int-to-float-x : tie.Need-int-to-float-x
-int-to-float-x c = search needs
-
 -- c0 is what is known after the count of doublings, c1 to c9 and c what is known after each product in turn.
 returns : tie.Need-returns
 unfolding ofBits
@@ -52,7 +49,7 @@ to-f64-spec =
     tie.close
     (tie.spec
     doublings-requires
-    int-to-float-x
+    (λ c. search needs)
     (λ c κs. tt)
     (λ c κs. tt)
     (λ c κs. tt)

@@ -28,9 +28,6 @@ digits c =
     let start = c .before .before .before in
     sum-word (start .pre .0 .small) (start .pre .1 .0 .small) (gap-few (gap c))
 
-gap-requires : tie.Need-gap-requires
-gap-requires c κs = search needs
-
 -- The shift loses no digit.
 whole : (c : tie.After-gap)
     → c .before .before .before .args .x .significand * 2 ^ c .gap .result % 2 ^ 64
@@ -45,17 +42,8 @@ exponent c =
     rw (result-back (c .lowered .result) (c .lowered .ok))
     (rw (reach-back (lit< tt) (start .pre .0 .reach)) at (c .lowered .ensures))
 
-cast-v : tie.Need-cast-v
-cast-v c = search needs
-
-cast-v-2 : tie.Need-cast-v-2
-cast-v-2 c = search needs
-
 shl-v : tie.Need-shl-v
 shl-v c = omega (arith, gap-few (gap (c .before)))
-
-cast-v-3 : tie.Need-cast-v-3
-cast-v-3 c = search needs
 
 add-v : tie.Need-add-v
 add-v c = record { fits = omega (arith, whole (c .before .before), digits (c .before .before)) }
@@ -88,4 +76,4 @@ returns c =
 
 pub add-spec : {M : Type 1} → statement M
 add-spec =
-    tie.close (tie.spec gap-requires cast-v cast-v-2 shl-v cast-v-3 add-v lowered-requires keep-requires returns)
+    tie.close (tie.spec (λ c κs. search needs) (λ c. search needs) (λ c. search needs) shl-v (λ c. search needs) add-v lowered-requires keep-requires returns)

@@ -8,14 +8,8 @@ use Rattle.kept.specs.Rounding.Leading.{carry-significand, carry-below}
 use Rattle.kept.proofs.rounding.carried.Statement.{statement}
 use Rattle.kept.proofs.rounding.carried.Tie as tie
 
-shr-t4 : tie.Need-shr-t4
-shr-t4 c = search needs
-
 cast-t5 : tie.Need-cast-t5
 cast-t5 c = record { fits = carry-below (c .args .significand) (c .pre .0) }
-
-settled-requires : tie.Need-settled-requires
-settled-requires c κs = search needs
 
 returns : tie.Need-returns
 returns c =
@@ -29,4 +23,4 @@ returns c =
     refl
 
 pub carried-spec : {M : Type 1} → statement M
-carried-spec = tie.close (tie.spec shr-t4 cast-t5 settled-requires returns)
+carried-spec = tie.close (tie.spec (λ c. search needs) cast-t5 (λ c κs. search needs) returns)

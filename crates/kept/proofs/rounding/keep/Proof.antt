@@ -43,15 +43,6 @@ reach c =
     let start = c .before .before .before .before in
     rw (exponent c) (reach-weaken {n = 2000000196} (lit≤ tt) (reach-minus (upper start) (reach-whole (le-of-lt (word start .few)))))
 
-shifted-up-requires : tie.Need-shifted-up-requires
-shifted-up-requires c κs = search needs
-
-add-dropped : tie.Need-add-dropped
-add-dropped c = search needs
-
-one-more-requires : tie.Need-one-more-requires
-one-more-requires c κs = search needs
-
 add-carried : tie.Need-add-carried
 add-carried c = record { fits = omega (arith, little c, shifted-below (c .before)) }
 
@@ -59,9 +50,6 @@ add-lowered : tie.Need-add-lowered
 add-lowered c =
     let start = c .before .before in
     rw (toZ-ofZ (start .fits .exponent)) (reach-fits (lit< tt) (upper start))
-
-headroom-requires : tie.Need-headroom-requires
-headroom-requires c κs = search needs
 
 lowered-requires : tie.Need-lowered-requires
 lowered-requires c κs =
@@ -81,12 +69,12 @@ pub keep-spec : {M : Type 1} → statement M
 keep-spec =
     tie.close
     (tie.spec
-    shifted-up-requires
-    add-dropped
-    one-more-requires
+    (λ c κs. search needs)
+    (λ c. search needs)
+    (λ c κs. search needs)
     add-carried
     add-lowered
-    headroom-requires
+    (λ c κs. search needs)
     lowered-requires
     carried-requires
     returns)

@@ -14,9 +14,6 @@ use Rattle.kept.proofs.rounding.lowered.Tie as tie
 fits : (c : tie.Start) → SFits w32 (c .args .exponent -ℤ pos (c .args .shift))
 fits c = reach-fits (lit< tt) (reach-minus (c .pre .0) (reach-whole (c .pre .1)))
 
-cast-result : tie.Need-cast-result
-cast-result c = search needs
-
 sub-result : tie.Need-sub-result
 sub-result c = rw (toZ-ofZ (c .fits .exponent), toZ-pos w32 {n = c .args .shift} (omega arith)) (fits c)
 
@@ -24,4 +21,4 @@ returns : tie.Need-returns
 returns c = rw (toZ-ofZ (c .fits .exponent), toZ-pos w32 {n = c .args .shift} (omega arith)) (toZ-ofZ (fits c))
 
 pub lowered-spec : {M : Type 1} → statement M
-lowered-spec = tie.close (tie.spec cast-result sub-result returns)
+lowered-spec = tie.close (tie.spec (λ c. search needs) sub-result returns)

@@ -14,15 +14,6 @@ unfolding step
 carried-over zero few = omega arith
 carried-over (suc r) few = omega arith
 
-enum-told : tie.Need-enum-told
-enum-told c = search needs
-
-enum-told-2 : tie.Need-enum-told-2
-enum-told-2 c = search needs
-
-add-result : tie.Need-add-result
-add-result c = search needs
-
 returns : tie.Need-returns
 unfolding step
 returns c = rw (c .enum-told .given .1) refl
@@ -32,4 +23,4 @@ returns-2 c =
     rw (c .enum-told2 .given .1) (carried-over (c .before .before .args .dropped) (c .before .before .pre))
 
 pub one-more-spec : {M : Type 1} → statement M
-one-more-spec = tie.close (tie.spec enum-told enum-told-2 add-result returns returns-2)
+one-more-spec = tie.close (tie.spec (λ c. search needs) (λ c. search needs) (λ c. search needs) returns returns-2)

@@ -23,20 +23,8 @@ exponent c =
     rw (result-back (c .lowered .result) (c .lowered .ok))
     (rw (c .before .headroom .ensures, toZ-ofZ (c .before .before .before .fits .exponent)) at (c .lowered .ensures))
 
-shifted-up-requires : tie.Need-shifted-up-requires
-shifted-up-requires c κs = search needs
-
-div-keep : tie.Need-div-keep
-div-keep c = search needs
-
-rem-keep : tie.Need-rem-keep
-rem-keep c = search needs
-
 cast-keep : tie.Need-cast-keep
 cast-keep c = record { fits = omega (arith, mod-lt (c .shifted-up .result) (c .before .pre .1), c .before .fits .m .fits) }
-
-headroom-requires : tie.Need-headroom-requires
-headroom-requires c κs = search needs
 
 lowered-requires : tie.Need-lowered-requires
 lowered-requires c κs =
@@ -60,11 +48,11 @@ pub ratio-spec : {M : Type 1} → statement M
 ratio-spec =
     tie.close
     (tie.spec
-    shifted-up-requires
-    div-keep
-    rem-keep
+    (λ c κs. search needs)
+    (λ c. search needs)
+    (λ c. search needs)
     cast-keep
-    headroom-requires
+    (λ c κs. search needs)
     lowered-requires
     keep-requires
     returns)

@@ -21,9 +21,6 @@ little c = omega (arith, c .pre .0)
 fits : (c : tie.Start) → SFits w32 (c .args .exponent +ℤ pos (c .args .significand / 2 ^ 32))
 fits c = reach-fits (lit< tt) (reach-plus (c .pre .1) (reach-whole (little c)))
 
-cast-result : tie.Need-cast-result
-cast-result c = search needs
-
 add-result : tie.Need-add-result
 add-result c =
     let start = c .before in
@@ -47,4 +44,4 @@ returns-2 c =
     )
 
 pub settled-spec : {M : Type 1} → statement M
-settled-spec = tie.close (tie.spec cast-result add-result returns returns-2)
+settled-spec = tie.close (tie.spec (λ c. search needs) add-result returns returns-2)

@@ -9,12 +9,6 @@ use Rattle.kept.proofs.rounding.shifted_up.Tie as tie
 word : (c : tie.Start) → Shifted (c .args .v)
 word c = shifted (c .fits .v .fits)
 
-headroom-requires : tie.Need-headroom-requires
-headroom-requires c κs = search needs
-
-cast-result : tie.Need-cast-result
-cast-result c = search needs
-
 shl-result : tie.Need-shl-result
 shl-result c = rw (c .headroom .ensures) (word (c .before) .few)
 
@@ -22,4 +16,4 @@ returns : tie.Need-returns
 returns c = rw (c .headroom .ensures) (mod-eq-of-lt (word (c .before) .below))
 
 pub shifted-up-spec : {M : Type 1} → statement M
-shifted-up-spec = tie.close (tie.spec headroom-requires cast-result shl-result returns)
+shifted-up-spec = tie.close (tie.spec (λ c κs. search needs) (λ c. search needs) shl-result returns)

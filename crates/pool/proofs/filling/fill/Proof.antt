@@ -18,9 +18,6 @@ some c none = omega arith
 none : (c : tie.Else1) → c .before .fill-refusal .result ≡ 0
 none c = omega arith
 
-fill-refusal-requires : tie.Need-fill-refusal-requires
-fill-refusal-requires c κs = search needs
-
 returns : tie.Need-returns
 unfolding fillRefusal lengths store
 returns c = record { refusal-is = c .before .fill-refusal .ensures; leaves = store-untouched (c .before .fill-refusal .result) (some c) refl }
@@ -30,18 +27,6 @@ unfolding lengths store
 fill-both-requires c κs =
     let else1 = c .before .before .before .before in
     record { accepted = fill-accepted _ _ _ _ (sym (else1 .before .fill-refusal .ensures) ∙ none else1) }
-
-same-length : tie.Need-same-length
-same-length c = search needs
-
-same-length-2 : tie.Need-same-length-2
-same-length-2 c = search needs
-
-same-length-3 : tie.Need-same-length-3
-same-length-3 c = search needs
-
-same-length-4 : tie.Need-same-length-4
-same-length-4 c = search needs
 
 returns-2 : tie.Need-returns-2
 unfolding fillRefusal lengths store
@@ -54,4 +39,4 @@ returns-2 c =
 pub fill-spec : {M : Type 1} → statement M
 fill-spec =
     tie.close
-    (tie.spec fill-refusal-requires returns fill-both-requires same-length same-length-2 same-length-3 same-length-4 returns-2)
+    (tie.spec (λ c κs. search needs) returns fill-both-requires (λ c. search needs) (λ c. search needs) (λ c. search needs) (λ c. search needs) returns-2)

@@ -16,18 +16,6 @@ fill-side-requires-2 : tie.Need-fill-side-requires-2
 unfolding store half
 fill-side-requires-2 c κs = fillable High (c .before .before .before .before .before .before .before .before .before .before .pre)
 
-same-length : tie.Need-same-length
-same-length c = search needs
-
-same-length-2 : tie.Need-same-length-2
-same-length-2 c = search needs
-
-same-length-3 : tie.Need-same-length-3
-same-length-3 c = search needs
-
-same-length-4 : tie.Need-same-length-4
-same-length-4 c = search needs
-
 returns : tie.Need-returns
 unfolding store storeAfter filledHalf
 returns c =
@@ -41,4 +29,4 @@ returns c =
 
 pub fill-both-spec : {M : Type 1} → statement M
 fill-both-spec =
-    tie.close (tie.spec fill-side-requires fill-side-requires-2 same-length same-length-2 same-length-3 same-length-4 returns)
+    tie.close (tie.spec fill-side-requires fill-side-requires-2 (λ c. search needs) (λ c. search needs) (λ c. search needs) (λ c. search needs) returns)

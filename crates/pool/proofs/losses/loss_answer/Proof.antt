@@ -30,12 +30,6 @@ returns : tie.Need-returns
 unfolding lossAnswer lossOf
 returns c = rw (eq-eqb _ _ (none c)) refl
 
-is-below-shown-requires : tie.Need-is-below-shown-requires
-is-below-shown-requires c κs = search needs
-
-raised-requires : tie.Need-raised-requires
-raised-requires c κs = search needs
-
 to-f64-requires : tie.Need-to-f64-requires
 to-f64-requires c κs =
     let bounds = c .before .before .before .before .before .pre in
@@ -66,4 +60,4 @@ returns-3 c =
 pub loss-answer-spec : {M : Type 1} → statement M
 loss-answer-spec =
     tie.close
-    (tie.spec returns is-below-shown-requires raised-requires to-f64-requires returns-2 to-f64-requires-2 to-f64-requires-3 returns-3)
+    (tie.spec returns (λ c κs. search needs) (λ c κs. search needs) to-f64-requires returns-2 to-f64-requires-2 to-f64-requires-3 returns-3)

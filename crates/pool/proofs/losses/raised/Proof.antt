@@ -6,9 +6,6 @@ use Rattle.steps.specs.Loss.{raisedToShown, keptLeastShown}
 use Rattle.pool.proofs.losses.raised.Statement.{statement}
 use Rattle.pool.proofs.losses.raised.Tie as tie
 
-is-below-shown-requires : tie.Need-is-below-shown-requires
-is-below-shown-requires c κs = search needs
-
 returns : tie.Need-returns
 unfolding raisedToShown keptLeastShown
 returns c = rw (sym (c .before .is-below-shown .ensures) ∙ c .if1 .taken) refl
@@ -18,4 +15,4 @@ unfolding raisedToShown
 returns-2 c = rw (sym (c .before .is-below-shown .ensures) ∙ c .if1 .left) refl
 
 pub raised-spec : {M : Type 1} → statement M
-raised-spec = tie.close (tie.spec is-below-shown-requires returns returns-2)
+raised-spec = tie.close (tie.spec (λ c κs. search needs) returns returns-2)

@@ -46,9 +46,6 @@ accepted c = loss-accepted _ _ _ _ _ _ _ (none c)
 abbrev else-of : tie.After-tranche-bound → tie.Else1
 else-of c = c .before .before .before .before .before .before .before .before .before .before .before .before .before .before
 
-loss-refusal-requires : tie.Need-loss-refusal-requires
-loss-refusal-requires c κs = search needs
-
 returns : tie.Need-returns
 unfolding lossRefusal lengths store replyOf refusalOf
 returns c =
@@ -83,18 +80,6 @@ loss-answer-requires c κs =
     let wide = loss-wide _ _ (ok .fill .pool) (ok .tranche) in
     rw (c .before .tranche-bound .ensures wide, c .tranche-bound2 .ensures wide) (answerable _ _ _ (ok .fill .pool) _ _ _ (ok .tranche) wide)
 
-same-length : tie.Need-same-length
-same-length c = search needs
-
-same-length-2 : tie.Need-same-length-2
-same-length-2 c = search needs
-
-same-length-3 : tie.Need-same-length-3
-same-length-3 c = search needs
-
-same-length-4 : tie.Need-same-length-4
-same-length-4 c = search needs
-
 returns-2 : tie.Need-returns-2
 unfolding replyOf refusalOf
 returns-2 c =
@@ -115,14 +100,14 @@ pub tranche-loss-spec : {M : Type 1} → statement M
 tranche-loss-spec =
     tie.close
     (tie.spec
-    loss-refusal-requires
+    (λ c κs. search needs)
     returns
     fill-both-requires
     tranche-bound-requires
     tranche-bound-requires-2
     loss-answer-requires
-    same-length
-    same-length-2
-    same-length-3
-    same-length-4
+    (λ c. search needs)
+    (λ c. search needs)
+    (λ c. search needs)
+    (λ c. search needs)
     returns-2)

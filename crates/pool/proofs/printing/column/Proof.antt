@@ -38,9 +38,6 @@ accepted : (c : tie.Else1) → Accepted (c .before .before .before .before .befo
 unfolding columnRefusal
 accepted c = column-accepted _ _ _ _ _ (none c)
 
-column-refusal-requires : tie.Need-column-refusal-requires
-column-refusal-requires c κs = search needs
-
 returns : tie.Need-returns
 unfolding columnRefusal lengths store
 returns c =
@@ -67,21 +64,6 @@ print-rows-requires c κs =
     let ok = accepted (filled .before .before .before .before .before) in
     (tails-ready _ _ _ (ok .fill .pool) (chances-made _ _ _ (ok .fill .pool) Low (filled .fill-both .ensures .low-row) (c .before .chances .ensures)), ok .column)
 
-same-length : tie.Need-same-length
-same-length c = search needs
-
-same-length-2 : tie.Need-same-length-2
-same-length-2 c = search needs
-
-same-length-3 : tie.Need-same-length-3
-same-length-3 c = search needs
-
-same-length-4 : tie.Need-same-length-4
-same-length-4 c = search needs
-
-same-length-5 : tie.Need-same-length-5
-same-length-5 c = search needs
-
 returns-2 : tie.Need-returns-2
 unfolding unitsAfter
 returns-2 c =
@@ -101,14 +83,14 @@ pub column-spec : {M : Type 1} → statement M
 column-spec =
     tie.close
     (tie.spec
-    column-refusal-requires
+    (λ c κs. search needs)
     returns
     fill-both-requires
     chances-requires
     print-rows-requires
-    same-length
-    same-length-2
-    same-length-3
-    same-length-4
-    same-length-5
+    (λ c. search needs)
+    (λ c. search needs)
+    (λ c. search needs)
+    (λ c. search needs)
+    (λ c. search needs)
     returns-2)

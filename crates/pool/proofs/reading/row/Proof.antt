@@ -28,18 +28,6 @@ ends : (c : tie.After-row-start)
     → c .row-start .result + c .before .before .before .before .args .k + 1 ≤ length (c .before .before .before .before .args .significands .now)
 ends c = rw (c .row-start .ensures) (omega (arith, within (c .before) .1))
 
-row-refusal-requires : tie.Need-row-refusal-requires
-row-refusal-requires c κs = search needs
-
-sub-result : tie.Need-sub-result
-sub-result c = search needs
-
-part-result-start : tie.Need-part-result-start
-part-result-start c = search needs
-
-part-result-end : tie.Need-part-result-end
-part-result-end c = search needs
-
 returns : tie.Need-returns
 unfolding rowRefusal
 returns c =
@@ -59,12 +47,6 @@ add-end-2 c = record { fits = omega (arith, ends c) }
 mul-result : tie.Need-mul-result
 mul-result c = record { fits = omega (arith, ends c) }
 
-sub-result-2 : tie.Need-sub-result-2
-sub-result-2 c = search needs
-
-part-result-start-2 : tie.Need-part-result-start-2
-part-result-start-2 c = search needs
-
 part-result-end-2 : tie.Need-part-result-end-2
 part-result-end-2 c = ends c
 
@@ -83,16 +65,16 @@ pub row-spec : {M : Type 1} → statement M
 row-spec =
     tie.close
     (tie.spec
-    row-refusal-requires
-    sub-result
-    part-result-start
-    part-result-end
+    (λ c κs. search needs)
+    (λ c. search needs)
+    (λ c. search needs)
+    (λ c. search needs)
     returns
     row-start-requires
     add-end
     add-end-2
     mul-result
-    sub-result-2
-    part-result-start-2
+    (λ c. search needs)
+    (λ c. search needs)
     part-result-end-2
     returns-2)

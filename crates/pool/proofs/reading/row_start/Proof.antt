@@ -9,16 +9,10 @@ use Rattle.pool.specs.Stores.{place}
 use Rattle.pool.proofs.reading.row_start.Statement.{statement}
 use Rattle.pool.proofs.reading.row_start.Tie as tie
 
-add-result : tie.Need-add-result
-add-result c = search needs
-
 mul-result : tie.Need-mul-result
 unfolding largestPool
 mul-result c = record { fits = omega (arith, mul-le-mul-right (c .args .k + 1) (c .pre)) }
 
-returns : tie.Need-returns
-unfolding place
-returns c = omega arith
-
 pub row-start-spec : {M : Type 1} → statement M
-row-start-spec = tie.close (tie.spec add-result mul-result returns)
+unfolding place
+row-start-spec = tie.close (tie.spec (λ c. search needs) mul-result (λ c. omega arith))

@@ -31,14 +31,8 @@ here c = rw (add-one, ← drop-cons (input c) (c .before .loop .next) 0 (c .loop
 loop-holds : tie.Need-loop-holds Inv-loop μ-loop
 loop-holds c = reading-none _
 
-shared-slice-read-byte : tie.Need-shared-slice-read-byte Inv-loop μ-loop
-shared-slice-read-byte c = search needs
-
 returns : tie.Need-returns Inv-loop μ-loop
 returns c = no-field (here (c .before .before .before)) (λ same one. omega arith) (λ is few. omega arith)
-
-add-t13 : tie.Need-add-t13 Inv-loop μ-loop
-add-t13 c = search needs
 
 returns-2 : tie.Need-returns-2 Inv-loop μ-loop
 returns-2 c = (omega arith, reading-end (c .before .before .before .before .before .pre) (here (c .before .before .before)) (c .before .if1 .taken) (omega arith))
@@ -58,20 +52,8 @@ small c = reading-small (here (c .before .before .before .before .before)) (omeg
 mul-value : tie.Need-mul-value Inv-loop μ-loop
 mul-value c = omega (arith, small c)
 
-cast-value : tie.Need-cast-value Inv-loop μ-loop
-cast-value c = search needs
-
 add-value : tie.Need-add-value Inv-loop μ-loop
 add-value c = omega (arith, small c)
-
-add-digits : tie.Need-add-digits Inv-loop μ-loop
-add-digits c = search needs
-
-add-next : tie.Need-add-next Inv-loop μ-loop
-add-next c = search needs
-
-loop-less : tie.Need-loop-less Inv-loop μ-loop
-loop-less c = search needs
 
 loop-again : tie.Need-loop-again Inv-loop μ-loop
 loop-again c = reading-more (c .before .before .before .before .before .before .before .pre) (here (c .before .before .before .before .before)) (omega arith) (omega arith)
@@ -86,18 +68,18 @@ read-field-spec =
     Inv-loop
     μ-loop
     loop-holds
-    shared-slice-read-byte
+    (λ c. search needs)
     returns
-    add-t13
+    (λ c. search needs)
     returns-2
     returns-3
     returns-4
     returns-5
     mul-value
-    cast-value
+    (λ c. search needs)
     add-value
-    add-digits
-    add-next
-    loop-less
+    (λ c. search needs)
+    (λ c. search needs)
+    (λ c. search needs)
     loop-again
     returns-6)

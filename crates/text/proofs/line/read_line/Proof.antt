@@ -43,38 +43,11 @@ past-p : (c : tie.After-p) {n p ρ : ℕ} → Accepts (input (c .before .before 
     → Fields (code "\n" ∷ []) (ρ ∷ []) (after-p c)
 past-p c line = after (lit< tt) (second c) (past-n (c .before .before .before .before) line) .1
 
-read-field-requires : tie.Need-read-field-requires
-read-field-requires c κs = search needs
-
-enum-known-n : tie.Need-enum-known-n
-enum-known-n c = search needs
-
-enum-told : tie.Need-enum-told
-enum-told c = search needs
-
 returns : tie.Need-returns
 returns c = λ n p ρ line. no-field-first (subst (ReadsField _ 0 (code " ")) (c .enum-told .given .1) (c .before .before .read-field .ensures)) (fields line)
 
-read-field-requires-2 : tie.Need-read-field-requires-2
-read-field-requires-2 c κs = search needs
-
-enum-known-p : tie.Need-enum-known-p
-enum-known-p c = search needs
-
-enum-told-2 : tie.Need-enum-told-2
-enum-told-2 c = search needs
-
 returns-2 : tie.Need-returns-2
 returns-2 c = λ n p ρ line. no-field-first (subst (ReadsField _ _ (code " ")) (c .enum-told2 .given .1) (c .before .before .read-field2 .ensures)) (past-n (c .before .before .before .before) line)
-
-read-field-requires-3 : tie.Need-read-field-requires-3
-read-field-requires-3 c κs = search needs
-
-enum-known-rho : tie.Need-enum-known-rho
-enum-known-rho c = search needs
-
-enum-told-3 : tie.Need-enum-told-3
-enum-told-3 c = search needs
 
 returns-3 : tie.Need-returns-3
 returns-3 c = λ n p ρ line. no-field-first (subst (ReadsField _ _ (code "\n")) (c .enum-told3 .given .1) (c .before .before .read-field3 .ensures)) (past-p (c .before .before .before .before) line)
@@ -99,17 +72,17 @@ pub read-line-spec : {M : Type 1} → statement M
 read-line-spec =
     tie.close
     (tie.spec
-    read-field-requires
-    enum-known-n
-    enum-told
+    (λ c κs. search needs)
+    (λ c. search needs)
+    (λ c. search needs)
     returns
-    read-field-requires-2
-    enum-known-p
-    enum-told-2
+    (λ c κs. search needs)
+    (λ c. search needs)
+    (λ c. search needs)
     returns-2
-    read-field-requires-3
-    enum-known-rho
-    enum-told-3
+    (λ c κs. search needs)
+    (λ c. search needs)
+    (λ c. search needs)
     returns-3
     returns-4
     returns-5)

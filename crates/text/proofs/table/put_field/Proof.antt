@@ -15,12 +15,9 @@ put-byte-requires : tie.Need-put-byte-requires
 unfolding fieldText
 put-byte-requires c κs = room-second (c .before .before .before .before .before .before .pre) (c .before .before .before .put-decimal .ensures)
 
-same-length : tie.Need-same-length
-same-length c = search needs
-
 returns : tie.Need-returns
 unfolding fieldText
 returns c = puts-both (c .before .before .before .before .before .before .put-decimal .ensures) (c .before .before .put-byte .ensures)
 
 pub put-field-spec : {M : Type 1} → statement M
-put-field-spec = tie.close (tie.spec put-decimal-requires put-byte-requires same-length returns)
+put-field-spec = tie.close (tie.spec put-decimal-requires put-byte-requires (λ c. search needs) returns)

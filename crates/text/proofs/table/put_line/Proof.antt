@@ -25,9 +25,6 @@ put-field-requires-3 c κs =
     room-second (c .before .before .before .before .before .before .before .before .before .before .pre)
     (puts-both (c .before .before .before .before .before .before .before .put-field .ensures) (c .before .before .before .put-field2 .ensures))
 
-same-length : tie.Need-same-length
-same-length c = search needs
-
 returns : tie.Need-returns
 unfolding line
 returns c =
@@ -38,4 +35,4 @@ returns c =
 pub put-line-spec : {M : Type 1} → statement M
 put-line-spec =
     tie.close
-    (tie.spec put-field-requires put-field-requires-2 put-field-requires-3 same-length returns)
+    (tie.spec put-field-requires put-field-requires-2 put-field-requires-3 (λ c. search needs) returns)

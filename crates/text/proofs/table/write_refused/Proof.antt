@@ -14,18 +14,9 @@ room : (c : tie.Start) → Room (refusedText (c .args .number)) 0 (c .args .text
 unfolding refusedText ascii
 room c = record { room = omega (arith, field-length 1 (c .args .number) (code "\n") (omega arith)) }
 
-slice-aggregate-put-bytes : tie.Need-slice-aggregate-put-bytes
-slice-aggregate-put-bytes c = search needs
-
-put-bytes-requires : tie.Need-put-bytes-requires
-put-bytes-requires c κs = search needs
-
 put-field-requires : tie.Need-put-field-requires
 unfolding refusedText ascii
 put-field-requires c κs = room-second (room (c .before .before .before .before .before .before .before)) (c .before .before .before .put-bytes .ensures)
-
-same-length : tie.Need-same-length
-same-length c = search needs
 
 returns : tie.Need-returns
 unfolding refusedText ascii
@@ -36,4 +27,4 @@ returns c =
 pub write-refused-spec : {M : Type 1} → statement M
 write-refused-spec =
     tie.close
-    (tie.spec slice-aggregate-put-bytes put-bytes-requires put-field-requires same-length returns)
+    (tie.spec (λ c. search needs) (λ c κs. search needs) put-field-requires (λ c. search needs) returns)

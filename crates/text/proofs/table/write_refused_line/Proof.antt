@@ -8,19 +8,10 @@ use Rattle.text.specs.Table.Stores.{written}
 use Rattle.text.proofs.table.write_refused_line.Statement.{statement}
 use Rattle.text.proofs.table.write_refused_line.Tie as tie
 
-slice-aggregate-put-bytes : tie.Need-slice-aggregate-put-bytes
-slice-aggregate-put-bytes c = search needs
-
-put-bytes-requires : tie.Need-put-bytes-requires
-put-bytes-requires c κs = search needs
-
-same-length : tie.Need-same-length
-same-length c = search needs
-
 returns : tie.Need-returns
 unfolding refusedLine ascii
 returns c = written (record { room = omega arith }) (c .before .before .put-bytes .ensures)
 
 pub write-refused-line-spec : {M : Type 1} → statement M
 write-refused-line-spec =
-    tie.close (tie.spec slice-aggregate-put-bytes put-bytes-requires same-length returns)
+    tie.close (tie.spec (λ c. search needs) (λ c κs. search needs) (λ c. search needs) returns)

@@ -17,12 +17,6 @@ Inv-loop n units text₀ next₀ tail₀ k₀ text next tail k = Lines n units t
 abbrev μ-loop : tie.MeasureT-loop
 μ-loop n units text₀ next₀ tail₀ k₀ text next tail k = suc n - k
 
-slice-aggregate-put-bytes : tie.Need-slice-aggregate-put-bytes Inv-loop μ-loop
-slice-aggregate-put-bytes c = search needs
-
-put-bytes-requires : tie.Need-put-bytes-requires Inv-loop μ-loop
-put-bytes-requires c κs = search needs
-
 headed : (c : tie.After-slice-known2 Inv-loop μ-loop)
     → Puts header 0 (c .before .before .before .before .before .before .before .args .text .now) (c .before .before .put-bytes .last .0) (c .before .before .put-bytes .result)
 unfolding header ascii
@@ -30,15 +24,6 @@ headed c = c .before .before .put-bytes .ensures
 
 loop-holds : tie.Need-loop-holds Inv-loop μ-loop
 loop-holds c = lines-none _ (c .before .before .before .before .before .before .before .pre .1 .1 .0)
-
-cast-row : tie.Need-cast-row Inv-loop μ-loop
-cast-row c = search needs
-
-mul-row : tie.Need-mul-row Inv-loop μ-loop
-mul-row c = search needs
-
-shared-slice-read-row : tie.Need-shared-slice-read-row Inv-loop μ-loop
-shared-slice-read-row c = search needs
 
 sub-rest : tie.Need-sub-rest Inv-loop μ-loop
 sub-rest c = row-at-most (c .before .before .loop .inv) (c .before .loop-test .taken)
@@ -50,12 +35,6 @@ put-line-requires c κs =
     let start = at-header .before .before .before .before .before .before .before in
     line-room (at-loop .loop .inv) (c .before .before .loop-test .taken) (start .pre .0)
     (omega (arith, start .pre .1 .1 .1, headed at-header .place, puts-length (headed at-header)))
-
-add-k : tie.Need-add-k Inv-loop μ-loop
-add-k c = search needs
-
-loop-less : tie.Need-loop-less Inv-loop μ-loop
-loop-less c = search needs
 
 loop-again : tie.Need-loop-again Inv-loop μ-loop
 loop-again c =
@@ -77,16 +56,16 @@ write-table-spec =
     (tie.spec
     Inv-loop
     μ-loop
-    slice-aggregate-put-bytes
-    put-bytes-requires
+    (λ c. search needs)
+    (λ c κs. search needs)
     loop-holds
-    cast-row
-    mul-row
-    shared-slice-read-row
+    (λ c. search needs)
+    (λ c. search needs)
+    (λ c. search needs)
     sub-rest
     put-line-requires
-    add-k
-    loop-less
+    (λ c. search needs)
+    (λ c. search needs)
     loop-again
     same-length
     returns)
