@@ -2,3 +2,6 @@
 
 // One, in basis points.
 pub const WHOLE: u32 = 10_000;
+
+// One, in units, the parts that a column is printed in.
+pub const UNITS: u32 = 100_000;

@@ -13,12 +13,12 @@ use Rattle.model.specs.Chances.{lossUnits}
 use Rattle.kept.specs.declared.Kept.{Kept}
 use Rattle.kept.specs.declared.Side.{Side}
 use Rattle.kept.specs.declared.Side.the-variants.{Low, High}
-use Rattle.kept.specs.Rounding.{scaled, nought, unity, step, carry, round, roundedProduct, roundedSum, roundedQuotient, ofInteger, ofBasisPoints}
+use Rattle.kept.specs.Rounding.{scaled, nought, unity, increment, carry, round, roundedProduct, roundedSum, roundedQuotient, ofInteger, ofBasisPoints}
 use Rattle.kept.specs.Binary64.{leastShown, belowShown, toBinary64}
-use Rattle.steps.specs.Rows.{constant, keptConditional, keptJoint, keptPower, keptWeight, keptPassStep, keptRow}
+use Rattle.steps.specs.CorrelatedBinomial.Rows.{constant, keptConditional, keptJoint, keptPower, keptWeight, keptPassStep, keptRow}
 use Rattle.steps.specs.Chances.{keptTotal, keptChance, keptTail, keptTerm, keptLoss}
 use Rattle.steps.specs.Column.{unitsOfCertainty, inUnits, printedTail, printedRow}
-use Rattle.steps.specs.Pool.{keptDefaults, keptPoolTail, keptPoolLoss}
+use Rattle.steps.specs.CorrelatedBinomial.{keptDefaults, keptPoolTail, keptPoolLoss}
 use Rattle.steps.specs.Loss.{untouched, faint, shown, keptLeastShown, raisedToShown, lossAnswer}
 
 -- s × 2^−(n+1)
@@ -74,7 +74,7 @@ pub cases :
     -- A tail of 69.5 units is rounded down, and one of 10,000 units has less on the low side.
     × (printedTail 3 (keptDefaults Low 3 500 500) 3 ≡ 69)
     × (printedTail 1 (keptDefaults Low 1 1000 3000) 1 ≡ 9999)
-unfolding scaled nought unity step carry round roundedProduct roundedSum roundedQuotient ofInteger ofBasisPoints size choose cut raise integer plus times divided whole complement over pass passed lossUnits constant keptConditional keptJoint keptPower keptWeight keptPassStep keptRow keptTotal keptChance keptTail keptTerm keptLoss unitsOfCertainty inUnits printedTail printedRow keptDefaults keptPoolTail keptPoolLoss leastShown belowShown keptLeastShown raisedToShown lossAnswer
+unfolding scaled nought unity increment carry round roundedProduct roundedSum roundedQuotient ofInteger ofBasisPoints size choose cut raise integer plus times divided whole complement over pass passed lossUnits constant keptConditional keptJoint keptPower keptWeight keptPassStep keptRow keptTotal keptChance keptTail keptTerm keptLoss unitsOfCertainty inUnits printedTail printedRow keptDefaults keptPoolTail keptPoolLoss leastShown belowShown keptLeastShown raisedToShown lossAnswer
 cases = (
   (refl, refl),
   (refl, refl),

@@ -1,7 +1,7 @@
 -- Steps 4 to 6: chances, tails and tranche losses in kept numbers, for one side, from a row of entries that bound P(0,n) to P(n,n), whatever model they
 -- come from. Each product, sum and quotient is rounded once.
 -- Assumes nothing.
-use Prim.Native.Nat.{ℕ, zero, suc, _+_, _-_, _*_, _<_}
+use Prim.Native.Nat.{ℕ, zero, suc, _-_, _*_, _<_}
 use Rattle.model.specs.Number.{choose}
 use Rattle.model.specs.Chances.{lossUnits}
 use Rattle.kept.specs.declared.Kept.{Kept}
@@ -33,15 +33,3 @@ module _ (side : Side) where
         -- Starting from zero, the products are added for X = 0 up to n; the total is divided by (B − A) × n.
         unfoldable pub keptLoss : 0 < (B - A) * n → Kept
         keptLoss wide = roundedQuotient side (keptTotal keptTerm (suc n)) ((B - A) * n) wide
-
--- How many parts in 2^31 a chance is away, from entries that are b away: the count of orders and the product are rounded.
-unfoldable pub chanceBudget : ℕ → ℕ
-chanceBudget b = b + 2
-
--- A tail, from chances of 0 to n defaults that are b away: at most n + 1 sums.
-unfoldable pub tailBudget : (n b : ℕ) → ℕ
-tailBudget n b = b + suc n
-
--- A tranche loss, from such chances: a product for each, n + 1 sums, a quotient.
-unfoldable pub lossBudget : (n b : ℕ) → ℕ
-lossBudget n b = b + 1 + suc n + 1

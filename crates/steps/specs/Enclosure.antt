@@ -1,13 +1,10 @@
--- What is claimed of two bounds, and of a row of chances of which both bounds are known.
+-- What is claimed of two bounds of one value.
 -- Assumes nothing.
-use Prim.Native.Nat.{ℕ, _≤_}
+use Prim.Native.Nat.{ℕ}
 use mathlib.Core.Path.{_≡_}
 use Rattle.model.specs.Fraction.{Fraction, AtMost, integer, plus, times}
-use Rattle.model.specs.Chances.{Chances, chance}
 use Rattle.kept.specs.declared.Kept.{Kept}
-use Rattle.kept.specs.declared.Side.{Side}
 use Rattle.kept.specs.Rounding.{value, nought}
-use Rattle.kept.specs.Accuracy.{Bound}
 pub mod Laws
 
 -- The exact value v lies between the kept numbers low and high, and these are at most one part in g of it apart.
@@ -18,7 +15,3 @@ pub record Enclosed (g : ℕ) (low high : Kept) (v : Fraction) : Type 0 where
   pub distance : AtMost (times (integer g) (value high)) (plus v (times (integer g) (value low)))
   -- An exact zero has zero on both sides.
   pub of-zero : v .num ≡ 0 → (low ≡ nought) × (high ≡ nought)
-
--- Chances c of either side, each within b parts of that of the row r.
-pub record Bounded (b : ℕ) (r : Chances) (c : Side → ℕ → Kept) : Type 0 where
-  pub bound : (side : Side) (j : ℕ) → j ≤ r .assets → Bound side b (c side j) (chance r j)

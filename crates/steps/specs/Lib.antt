@@ -1,8 +1,9 @@
-pub mod Cases
-pub mod Rows
+pub mod Inputs
+pub mod Budgets
 pub mod Chances
 pub mod Column
 pub mod Loss
 pub mod Enclosure
 pub mod Exponents
-pub mod Pool
+pub mod CorrelatedBinomial
+pub mod Cases

@@ -1,4 +1,7 @@
 // The steps that make the bounds of a pool's chances, tails and losses. It has definitions and laws, in specs/, and no function.
 
-// The largest number of assets.
+// The most assets of a pool whose bounds are at most one part in 100,000 apart.
 pub const LARGEST_POOL: u32 = 64;
+
+// The most assets that a working row has places for.
+pub const WORKING_ASSETS: u32 = 64;

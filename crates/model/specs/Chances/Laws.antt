@@ -1,16 +1,14 @@
 -- Laws of tails, mean and expected loss, for a row of chances in general.
 -- Assumes nothing.
 use Prim.Native.Nat.{ℕ, zero, suc, _+_, _*_, _-_, _≤_, _<_, min}
-use mathlib.Core.Path.{_≡_, refl, _∙_, ap}
-use mathlib.Core.Bool.{Bool, true, false, cond}
+use mathlib.Core.Path.{_≡_, refl, ap}
 use native.Mathlib.Omega.{arith}
 use native.Mathlib.Decide.{decLe}
 use native.Mathlib.Nat.{add-zero, zero-add, add-suc, sub-zero, add-sub-of-le, le-refl, le-trans, min-le-right, mul-pos, mul-le-mul-left, mul-le-mul-right}
-use lib.IntN.{pos, negsuc, _-ℤ_}
-use lib.Dec.{ltb}
-use borrow.Author.Tests.{ltb-true}
+use lib.IntN.{pos, _-ℤ_}
+use borrow.Author.Tests.{lt-ltb, le-ltb}
 use Rattle.model.specs.Number.{sum, sumBetween, cut, raise}
-use Rattle.model.specs.Number.Laws.{sum-cong, sum-last, between-first, between-none, between-total}
+use Rattle.model.specs.Number.Laws.{sum-last, between-first, between-none, between-total}
 use Rattle.model.specs.Fraction.{Same, AtMost, certainty, complement}
 use Rattle.model.specs.Chances.{Chances, Complete, share, tailNumerator, tail, mean, tailsTotal, lossUnits, lossNumerator, expectedLoss}
 
@@ -28,11 +26,7 @@ module _ (r : Chances) where
   tail-past l = between-none (r .assets) (r .numerator) l
 
   tail-step : (k : ℕ) → tailNumerator r (suc k) ≤ tailNumerator r k
-  tail-step k = by-place (decLe k (r .assets))
-    where
-      by-place : Dec (k ≤ r .assets) → tailNumerator r (suc k) ≤ tailNumerator r k
-      by-place (yes l) = omega (arith, tail-next l)
-      by-place (no l) = omega (arith, tail-past {k = suc k} (omega arith))
+  tail-step k = elim (decLe k (r .assets)) [ yes l ↦ omega (arith, tail-next l) | no l ↦ omega (arith, tail-past {k = suc k} (omega arith)) ]
 
   tail-steps : (i d : ℕ) → tailNumerator r (i + d) ≤ tailNumerator r i
   tail-steps i zero = rw (add-zero i) (le-refl (tailNumerator r i))
@@ -51,7 +45,7 @@ module _ (r : Chances) where
   module _ (complete : Complete r) where
     whole-tail : tailNumerator r 0 ≡ r .denominator
     unfolding tailNumerator sumBetween
-    whole-tail = rw sub-zero (sum-cong (suc (r .assets)) (λ i l. ap (r .numerator) (zero-add i)) ∙ complete)
+    whole-tail = simp (sub-zero, zero-add) complete
 
     pub tail-at-zero : Same (tail r 0) certainty
     unfolding tail share certainty
@@ -72,11 +66,7 @@ module _ (r : Chances) where
 raised-cut : (most a b : ℕ) → raise (cut most (pos a -ℤ pos b)) ≡ min (a - b) most
 unfolding raise cut
 raised-cut most a zero = omega arith
-raised-cut most a (suc b) = by-order (ltb a (suc b)) refl
-  where
-    by-order : (t : Bool) → ltb a (suc b) ≡ t → raise (cut most (cond t (negsuc (suc b - suc a)) (pos (a - suc b)))) ≡ min (a - suc b) most
-    by-order true below = let l : a < suc b = ltb-true a (suc b) below in omega arith
-    by-order false above = refl
+raised-cut most a (suc b) = elim (decLe (suc b) a) [ yes l ↦ rw (le-ltb a (suc b) l) | no l ↦ rw (lt-ltb a (suc b) (omega arith)) (omega arith) ]
 
 -- The loss units in whole numbers alone.
 pub loss-units-whole : (n R A B X : ℕ) → lossUnits n R A B X ≡ min (X * complement R - A * n) ((B - A) * n)
@@ -96,7 +86,7 @@ module _ (n R A B : ℕ) where
 
 -- A tranche on a pool that is not empty has a width.
 pub tranche-wide : {n A B : ℕ} → 0 < n → A < B → 0 < (B - A) * n
-tranche-wide some l = mul-pos (omega arith) some
+tranche-wide assets l = mul-pos (omega arith) assets
 
 module _ (r : Chances) (R A B : ℕ) where
   pub loss-none : lossNumerator r R A B 0 ≡ 0
@@ -111,10 +101,10 @@ module _ (r : Chances) (R A B : ℕ) where
   pub loss-of-last : lossUnits (r .assets) R A B (r .assets - 1) ≡ 0
       → lossNumerator r R A B (suc (r .assets)) ≡ r .numerator (r .assets) * lossUnits (r .assets) R A B (r .assets)
   unfolding lossNumerator
-  loss-of-last none =
+  loss-of-last no-loss-below =
       let n = r .assets in
-      sum-last n (λ X. r .numerator X * lossUnits n R A B X)
-      (λ X l. let zero-units : lossUnits n R A B X ≡ 0 = omega (arith, loss-units-grow n R A B {X = X} {Y = n - 1} (omega arith)) in rw zero-units (omega arith))
+      let no-units : (X : ℕ) → X < n → lossUnits n R A B X ≡ 0 = λ X l. omega (arith, loss-units-grow n R A B {X = X} {Y = n - 1} (omega arith)) in
+      sum-last n (λ X. r .numerator X * lossUnits n R A B X) (λ X l. rw (no-units X l) (omega arith))
 
   module _ (complete : Complete r) where
     -- The loss of fewer than k defaults, with all units lost from k on.

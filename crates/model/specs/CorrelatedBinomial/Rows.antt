@@ -1,14 +1,15 @@
 -- The rows made by the passes split: P(j,k+1) + P(j+1,k+1) = P(j,k). From that alone follow the closed form, the total and the mean.
 -- Assumes nothing.
 use Prim.Native.Nat.{ℕ, zero, suc, _+_, _*_, _-_, _^_, _≤_, _<_, zero-le}
-use mathlib.Core.Path.{_≡_, refl, sym, _∙_, ap}
+use mathlib.Core.Path.{_≡_, refl, _∙_, ap}
 use native.Mathlib.Omega.{arith}
-use native.Mathlib.Nat.{add-zero, zero-add, add-suc, suc-add, one-mul, sub-zero, sub-self, suc-sub-suc, add-sub-of-le, pow-succ', pow-zero, le-refl, le-of-suc-le-suc, mul-le-mul, mul-le-mul-left}
+use native.Mathlib.Nat.{add-zero, zero-add, add-suc, suc-add, one-mul, mul-one, sub-zero, sub-self, suc-sub-suc, pow-succ', pow-zero, le-refl, le-of-suc-le-suc, mul-le-mul, mul-le-mul-left}
 use native.Mathlib.Numerals.{one-add}
+use native.Mathlib.Decide.{decLe}
 use borrow.Author.Tests.{lt-ltb, le-ltb}
 use lib.Pow.{pow-add}
 use Rattle.model.specs.Number.{sum, choose, binomialSum, triangle}
-use Rattle.model.specs.Number.Laws.{pascal, binomial-cong, binomial-times, binomial-mean, triangle-mono}
+use Rattle.model.specs.Number.Laws.{pascal, binomial-times, binomial-mean, triangle-mono}
 use Rattle.model.specs.Splitting.{Splits, binomial-of-splits}
 use Rattle.model.specs.Fraction.{whole, complement}
 use Rattle.model.specs.Fraction.Laws.{complement-law}
@@ -35,22 +36,15 @@ unfolding folded passStep
 folded-binomial ρ f zero j = unfold binomialSum sum choose in (rw (pow-zero whole, pow-zero ρ, add-zero j) (omega arith))
 folded-binomial ρ f (suc s) j =
     let h : ℕ → ℕ = λ i. whole ^ (suc s - i) * ρ ^ i * f (j + i) in
-    let here : ℕ → ℕ = λ i. whole ^ (s - i) * ρ ^ i * f (j + i) in
-    let next : ℕ → ℕ = λ i. whole ^ (s - i) * ρ ^ i * f (suc j + i) in
-    let first : binomialSum s h ≡ whole * binomialSum s here =
-    binomial-cong s
-    (λ i l. let more : suc s - i ≡ suc (s - i) = omega arith in rw (more, pow-succ' whole (s - i)) (omega arith))
-    ∙ binomial-times s whole here in
-    let second : binomialSum s (λ i. h (suc i)) ≡ ρ * binomialSum s next =
-    binomial-cong s (λ i l. rw (suc-sub-suc s i, pow-succ' ρ i, add-suc j i, suc-add j i) (omega arith))
-    ∙ binomial-times s ρ next in
     omega (
       arith,
       ap (λ z. whole * z) (folded-binomial ρ f s j),
       ap (λ z. ρ * z) (folded-binomial ρ f s (suc j)),
       pascal s h,
-      first,
-      second,
+      binomial-times s whole h (λ i. whole ^ (s - i) * ρ ^ i * f (j + i))
+          (λ i l. let more : suc s - i ≡ suc (s - i) = omega arith in rw (more, pow-succ' whole (s - i)) (omega arith)),
+      binomial-times s ρ (λ i. h (suc i)) (λ i. whole ^ (s - i) * ρ ^ i * f (suc j + i))
+          (λ i l. rw (suc-sub-suc s i, pow-succ' ρ i, add-suc j i, suc-add j i) (omega arith)),
     )
 
 -- D^(T(K)−T(k)) = D^(k+1) × D^(T(K)−T(k+1))
@@ -86,37 +80,36 @@ module _ (p ρ : ℕ) where
           ap (λ z. whole ^ suc k * z) (complement-law ρ≤1),
         ))
 
-    last-splits : (k j : ℕ) → j + 0 ≡ k → rowEntry p ρ (suc k) j + rowEntry p ρ (suc k) (suc j) ≡ whole ^ suc k * rowEntry p ρ k j
+    last-splits : (k : ℕ) → rowEntry p ρ (suc k) k + rowEntry p ρ (suc k) (suc k) ≡ whole ^ suc k * rowEntry p ρ k k
     unfolding folded joint
-    last-splits k j e =
-        let j≡k : j ≡ k = sym (add-zero j) ∙ e in
-        rw j≡k
-        (omega (
+    last-splits k =
+        omega (
           arith,
           row-next k k 0 (add-zero k),
           row-last (suc k),
           ap (λ z. z * conditional p ρ k) (row-last k),
           ap (λ z. rowEntry p ρ k k * z) (conditional-complement k),
-        ))
-
-    row-splits-by : (k j d : ℕ) → j + d ≡ k → rowEntry p ρ (suc k) j + rowEntry p ρ (suc k) (suc j) ≡ whole ^ suc k * rowEntry p ρ k j
-    unfolding folded passStep
-    row-splits-by zero j zero e = last-splits zero j e
-    row-splits-by zero j (suc d) e = absurd (omega arith)
-    row-splits-by (suc k) j zero e = last-splits (suc k) j e
-    row-splits-by (suc k) j (suc d) e =
-        let row : ℕ → ℕ = folded (passStep ρ) d (rowEntry p ρ (suc k)) in
-        let g : ℕ = complement p * complement ρ ^ j in
-        rw (row-next (suc k) j (suc d) e, row-next (suc k) (suc j) d (omega arith), row-next k j d (omega arith), pow-succ' (complement ρ) j, pow-succ' whole (suc k))
-        (omega (
-          arith,
-          ap (λ z. g * (whole * z)) (folded-splits ρ (whole ^ suc k) (rowEntry p ρ (suc k)) (rowEntry p ρ k) d j (λ i l m. row-splits-by k i (k - i) (omega arith))),
-          ap (λ z. g * row (suc j) * z) (complement-law ρ≤1),
-        ))
+        )
 
     -- P(j,k+1) + P(j+1,k+1) = P(j,k), as numerators.
     pub row-splits : {j k : ℕ} → j ≤ k → rowEntry p ρ (suc k) j + rowEntry p ρ (suc k) (suc j) ≡ whole ^ suc k * rowEntry p ρ k j
-    row-splits {j} {k} l = row-splits-by k j (k - j) (add-sub-of-le l)
+    unfolding folded passStep
+    row-splits {j} {k = zero} l = let only : j ≡ 0 = omega arith in rw only (last-splits 0)
+    row-splits {j} {k = suc k} l = elim (decLe j k) [
+      | yes m ↦
+          let d : ℕ = k - j in
+          let row : ℕ → ℕ = rowEntry p ρ (suc k) in
+          let g : ℕ = complement p * complement ρ ^ j in
+          rw (row-next (suc k) j (suc d) (omega arith), row-next (suc k) (suc j) d (omega arith), row-next k j d (omega arith))
+          (rw (pow-succ' (complement ρ) j, pow-succ' whole (suc k))
+          (omega (
+            arith,
+            ap (λ z. g * (whole * z))
+                (folded-splits ρ (whole ^ suc k) row (rowEntry p ρ k) d j (λ i j≤i i≤k. row-splits {j = i} {k = k} (omega arith))),
+            ap (λ z. g * folded (passStep ρ) d row (suc j) * z) (complement-law ρ≤1),
+          )))
+      | no m ↦ let last : j ≡ suc k = omega arith in rw last (last-splits (suc k))
+    ]
 
     -- The same with all rows down to row K over D^T(K).
     pub scaled-rows-split : (K : ℕ) → Splits K (λ k j. rowEntry p ρ k j * whole ^ (triangle K - triangle k))
@@ -125,11 +118,11 @@ module _ (p ρ : ℕ) where
         (omega (arith, ap (λ z. z * whole ^ (triangle K - triangle (suc k))) (row-splits j≤k)))
 
     -- Entry j of row k from the entries of the row that is s below it.
-    rows-binomial : (s k j : ℕ) → j ≤ k → binomialSum s (λ i. rowEntry p ρ (k + s) (j + i)) ≡ rowEntry p ρ k j * whole ^ (triangle (k + s) - triangle k)
+    rows-binomial : (s k j : ℕ) → j ≤ k
+        → binomialSum s (λ i. rowEntry p ρ (k + s) (j + i)) ≡ rowEntry p ρ k j * whole ^ (triangle (k + s) - triangle k)
     rows-binomial s k j l =
         let entry : ℕ → ℕ → ℕ = λ n i. rowEntry p ρ n i * whole ^ (triangle (k + s) - triangle n) in
-        binomial-cong s (λ i m. rw (sub-self (triangle (k + s)), pow-zero whole) (omega arith))
-        ∙ binomial-of-splits (k + s) entry (scaled-rows-split (k + s)) s k j (le-refl (k + s)) l
+        simp (sub-self, pow-zero, mul-one) at (binomial-of-splits (k + s) entry (scaled-rows-split (k + s)) s k j (le-refl (k + s)) l)
 
     -- The entries of row n, each with its count of orders, add to D^T(n).
     pub row-total : (n : ℕ) → binomialSum n (λ j. rowEntry p ρ n j) ≡ whole ^ triangle n
@@ -138,12 +131,11 @@ module _ (p ρ : ℕ) where
 
     -- The same with j defaults counted j times.
     pub row-mean : (n : ℕ) → sum (suc n) (λ j. j * (choose n j * rowEntry p ρ n j)) * whole ≡ n * p * whole ^ triangle n
-    unfolding sum joint conditional triangle
+    unfolding sum joint conditional triangle whole
     row-mean zero = omega arith
     row-mean (suc n) =
         let t : ℕ = whole ^ (triangle (suc n) - 1) in
-        let above : triangle (suc n) ≡ suc (triangle (suc n) - 1) = omega arith in
-        let power : whole ^ triangle (suc n) ≡ whole * t = ap (λ z. whole ^ z) above ∙ pow-succ' whole (triangle (suc n) - 1) in
+        let power : whole ^ triangle (suc n) ≡ whole * t = simp sub-zero at (power-apart {k = 0} {K = suc n} (omega arith)) in
         let rest : binomialSum n (λ i. rowEntry p ρ (suc n) (suc i)) ≡ rowEntry p ρ 1 1 * t = simp one-add at (rows-binomial n 1 1 (le-refl 1)) in
         omega (
           arith,

@@ -2,7 +2,7 @@
 -- Assumes nothing.
 use Prim.Native.Nat.{ℕ, _*_, _^_}
 use mathlib.Core.Path.{_≡_, refl, ap}
-use mathlib.Core.List.{List, [], _∷_, _++_}
+use mathlib.Core.List.{List, [], _∷_}
 use native.Mathlib.Nat.{one-le-pow}
 use lib.Dec.{lit<}
 use Rattle.model.specs.Number.{sum, choose, binomialSum, integerSum, signed, alternatingSum, triangle, cut, raise}
@@ -29,8 +29,8 @@ abbrev pub Every : List Line → Type 0
 Every [] = Unit
 Every (l ∷ ls) = Same (l .exact) (l .figure) × Every ls
 
--- Sheets 1 to 6 are of the pool T: 3 assets, p = 1000, ρ = 3000. Sheets 4 to 6 have recovery 4000. Sheet 2 stands there by the closed form, by the form
--- without subtraction and by the passes.
+-- Sheets 1 to 6 are of the pool T: 3 assets, p = 1000, ρ = 3000. Sheets 4 to 6 have recovery 4000. Sheet 2 stands there by the closed form, by the
+-- form without subtraction and by the passes.
 small : List Line
 unfolding defaults
 small =
@@ -74,7 +74,7 @@ unfolding defaults
 large = line 10 (expectedLoss (defaults 64 1 0) 0 9999 10000 (lit< tt)) (decimal 1 256)
 
 pub table : List Line
-table = small ++ (large ∷ [])
+table = large ∷ small
 
 -- The numerator of the one times the denominator of the other, for each line.
 products : (Line → Fraction) → (Line → Fraction) → List Line → List ℕ
@@ -100,10 +100,6 @@ large-holds : Same (large .exact) (large .figure)
 unfolding large line decimal over triangle whole complement conditional joint scaledJoint closedForm probability defaults choose integerSum signed alternatingSum raise expectedLoss
 large-holds = record { cross = ap (λ z. z * 10 ^ 256) large-numerator }
 
-append : (ls : List Line) (l : Line) → Every ls → Same (l .exact) (l .figure) → Every (ls ++ (l ∷ []))
-append [] l h e = (e, tt)
-append (m ∷ ls) l h e = (h .0, append ls l (h .1) e)
-
 pub sheets : Every table
 unfolding table
-sheets = append small large small-holds large-holds
+sheets = (large-holds, small-holds)

@@ -2,12 +2,12 @@
 -- assets: the three forms of P(j,k) agree, P splits and is never negative, the chances add to one, the mean is n × p.
 -- Assumes nothing.
 use Prim.Native.Nat.{ℕ, suc, _+_, _*_, _-_, _^_, _≤_, _<_}
-use mathlib.Core.Path.{_≡_, sym, _∙_, ap, fun-ext}
+use mathlib.Core.Path.{_≡_, sym, _∙_, ap}
 use native.Mathlib.Omega.{arith}
-use native.Mathlib.Nat.{sub-self, mul-one, le-of-suc-le-suc, add-sub-of-le, pow-succ', pow-zero, le-refl, mul-le-mul-right}
+use native.Mathlib.Nat.{sub-self, mul-one, le-of-suc-le-suc, add-sub-of-le, pow-zero, le-refl, mul-le-mul-right}
 use lib.Pow.{pow-add}
 use lib.IntN.{pos}
-use Rattle.model.specs.Number.{choose, triangle, binomialSum, alternatingSum, raise}
+use Rattle.model.specs.Number.{choose, triangle, binomialSum, raise}
 use Rattle.model.specs.Number.Laws.{sum-cong, binomial-cong}
 use Rattle.model.specs.Splitting.{alternating-of-splits}
 use Rattle.model.specs.Fraction.{Fraction, Same, AtMost, plus, whole, complement, certainty, over}
@@ -23,11 +23,8 @@ module _ (p ρ : ℕ) (p≤1 : p ≤ whole) (ρ≤1 : ρ ≤ whole) where
   unfolding closedForm scaledJoint
   closed-form {j} {k} j≤k =
       let entry : ℕ → ℕ → ℕ = λ n i. rowEntry p ρ n i * whole ^ (triangle k - triangle n) in
-      let here : entry k j ≡ rowEntry p ρ k j = rw (sub-self (triangle k), pow-zero whole) (omega arith) in
-      ap (alternatingSum (k - j)) (fun-ext (λ i. ap (λ z. z * whole ^ (triangle k - triangle (j + i))) (sym (row-last p ρ (j + i)))))
-      ∙ alternating-of-splits k entry (scaled-rows-split p ρ p≤1 ρ≤1 k) (k - j) j (omega arith)
-      ∙ ap (λ n. pos (entry n j)) (add-sub-of-le j≤k)
-      ∙ ap pos here
+      simp (row-last p ρ, add-sub-of-le j≤k, sub-self, pow-zero, mul-one)
+      at (alternating-of-splits k entry (scaled-rows-split p ρ p≤1 ρ≤1 k) (k - j) j (omega arith))
 
   -- P(j,k) is entry j of row k, made by the passes.
   pub probability-row : {j k : ℕ} → j ≤ k → probability p ρ j k ≡ over (rowEntry p ρ k j) (triangle k)
@@ -62,12 +59,8 @@ module _ (p ρ : ℕ) (p≤1 : p ≤ whole) (ρ≤1 : ρ ≤ whole) where
   unfolding plus over triangle
   probability-splits {j} {k} l =
       let t : ℕ = whole ^ triangle k in
-      let u : ℕ = whole ^ suc k in
-      record {
-        cross =
-            rw (probability-row {j = j} {k = suc k} (omega arith), probability-row {j = suc j} {k = suc k} (omega arith), probability-row l, pow-add whole (triangle k) (suc k))
-            (omega (arith, ap (λ z. t * u * t * z) (row-splits p ρ p≤1 ρ≤1 l)));
-      }
+      rw (probability-row {j = j} {k = suc k} (omega arith), probability-row {j = suc j} {k = suc k} (omega arith), probability-row l)
+      (record { cross = rw (pow-add whole (triangle k) (suc k)) (omega (arith, ap (λ z. t * whole ^ suc k * t * z) (row-splits p ρ p≤1 ρ≤1 l))) })
 
   pub probability-at-most-one : {j k : ℕ} → j ≤ k → AtMost (probability p ρ j k) certainty
   unfolding over certainty
@@ -85,11 +78,11 @@ module _ (p ρ : ℕ) (p≤1 : p ≤ whole) (ρ≤1 : ρ ≤ whole) where
 
   -- The mean number of defaults is n × p.
   pub defaults-mean : (n : ℕ) → Same (mean (defaults n p ρ)) (over (n * p) 1)
-  unfolding mean defaults share over
+  unfolding mean defaults share over whole
   defaults-mean n = record {
     cross =
-        rw (pow-succ' whole 0, pow-zero whole, mul-one whole)
-        (ap (λ z. z * whole) (sum-cong (suc n) (λ j l. ap (λ z. j * (choose n j * z)) (numerator-row (le-of-suc-le-suc l)))) ∙ row-mean p ρ p≤1 ρ≤1 n);
+        ap (λ z. z * whole) (sum-cong (suc n) (λ j l. ap (λ z. j * (choose n j * z)) (numerator-row (le-of-suc-le-suc l))))
+        ∙ row-mean p ρ p≤1 ρ≤1 n;
   }
 
   -- The tails at 1 to n add to n × p.

@@ -2,8 +2,8 @@
 -- Assumes nothing.
 use Prim.Native.Nat.{ℕ, zero, suc, _+_, _*_, _^_, _≤_, _<_}
 use mathlib.Core.Path.{_≡_, ap}
-use native.Mathlib.Nat.{add-sub-of-le, sub-le, pow-succ', mul-le-mul, mul-le-mul-right, mul-lt-mul-of-pos-right}
-use native.Mathlib.Nat.{eq-of-mul-eq-mul-right, le-of-mul-le-mul-right, lt-of-mul-lt-mul-right}
+use native.Mathlib.Nat.{add-sub-of-le, sub-le, pow-succ', mul-le-mul, mul-le-mul-right, lt-of-not-le}
+use native.Mathlib.Nat.{eq-of-mul-eq-mul-right, le-of-mul-le-mul-right}
 use native.Mathlib.Omega.{arith}
 use lib.Dec.{lit≤}
 use lib.Pow.{pow-add}
@@ -20,7 +20,7 @@ same-sym e = omega arith
 pub same-trans : {x y z : Fraction} → Same x y → Same y z → Same x z
 same-trans {x} {y} {z} e f = record {
   cross =
-      eq-of-mul-eq-mul-right (y .den) (y .positive) (x .num * z .den) (z .num * x .den)
+      eq-of-mul-eq-mul-right (y .den) (y .positive) _ _
       (omega (arith, ap (λ n. n * z .den) (e .cross), ap (λ n. n * x .den) (f .cross)));
 }
 
@@ -39,6 +39,9 @@ at-most-antisymm l m = omega arith
 pub not-both : {x y : Fraction} → AtMost x y → Less y x → ⊥
 not-both l m = omega arith
 
+less-of-not : {x y : Fraction} → (AtMost y x → ⊥) → Less x y
+less-of-not not = record { cross = lt-of-not-le (λ l. not (record { cross = l })) }
+
 pub at-most-trans : {x y z : Fraction} → AtMost x y → AtMost y z → AtMost x z
 at-most-trans {x} {y} {z} l m = record {
   cross =
@@ -47,18 +50,10 @@ at-most-trans {x} {y} {z} l m = record {
 }
 
 pub less-at-most-trans : {x y z : Fraction} → Less x y → AtMost y z → Less x z
-less-at-most-trans {x} {y} {z} l m = record {
-  cross =
-      lt-of-mul-lt-mul-right (y .den)
-      (omega (arith, mul-lt-mul-of-pos-right (l .cross) (z .positive), mul-le-mul-right (x .den) (m .cross)));
-}
+less-at-most-trans l m = less-of-not (λ back. not-both (at-most-trans m back) l)
 
 pub at-most-less-trans : {x y z : Fraction} → AtMost x y → Less y z → Less x z
-at-most-less-trans {x} {y} {z} l m = record {
-  cross =
-      lt-of-mul-lt-mul-right (y .den)
-      (omega (arith, mul-le-mul-right (z .den) (l .cross), mul-lt-mul-of-pos-right (m .cross) (x .positive)));
-}
+at-most-less-trans l m = less-of-not (λ back. not-both (at-most-trans back l) m)
 
 -- ---- sums, products, quotients
 

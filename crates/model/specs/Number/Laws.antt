@@ -1,8 +1,8 @@
 -- Laws of finite sums, binomial coefficients and triangle numbers.
 -- Assumes nothing.
 use Prim.Native.Nat.{ℕ, zero, suc, _+_, _*_, _-_, _^_, _≤_, _<_, suc-le-suc}
-use mathlib.Core.Path.{_≡_, refl, sym, _∙_, ap, ap₂}
-use native.Mathlib.Nat.{le-step, le-of-suc-le-suc, le-of-eq, le-of-lt, le-antisymm, lt-suc-self, add-zero, zero-add, add-suc, suc-add, add-sub-of-le, add-mul, mul-add, mul-left-comm, mul-le-mul, pow-succ'}
+use mathlib.Core.Path.{_≡_, refl, sym, ap}
+use native.Mathlib.Nat.{suc-sub-suc, sub-eq-zero-of-le, le-step, le-of-suc-le-suc, le-of-eq, le-of-lt, le-antisymm, lt-suc-self, add-zero, zero-add, add-suc, suc-add, add-sub-of-le, add-mul, mul-le-mul, pow-succ'}
 use native.Mathlib.Omega.{arith}
 use lib.Pow.{pow-pos}
 use Rattle.model.specs.Number.{sum, sumBetween, choose, factorial, triangle, binomialSum}
@@ -18,15 +18,16 @@ sum-mono (suc n) h = omega (arith, sum-mono n (λ i l. h i (le-step l)), h n (lt
 pub sum-cong : (n : ℕ) {f g : ℕ → ℕ} → ((i : ℕ) → i < n → f i ≡ g i) → sum n f ≡ sum n g
 sum-cong n h = le-antisymm (sum-mono n (λ i l. le-of-eq (h i l))) (sum-mono n (λ i l. le-of-eq (sym (h i l))))
 
-pub sum-plus : (n : ℕ) (f g : ℕ → ℕ) → sum n (λ i. f i + g i) ≡ sum n f + sum n g
+-- Of terms that are a sum of two, and of terms that are c times others.
+sum-plus : (n : ℕ) (f g h : ℕ → ℕ) → ((i : ℕ) → i < n → f i ≡ g i + h i) → sum n f ≡ sum n g + sum n h
 unfolding sum
-sum-plus zero f g = refl
-sum-plus (suc n) f g = omega (arith, sum-plus n f g)
+sum-plus zero f g h e = refl
+sum-plus (suc n) f g h e = omega (arith, sum-plus n f g h (λ i l. e i (le-step l)), e n (lt-suc-self n))
 
-pub sum-times : (n c : ℕ) (f : ℕ → ℕ) → sum n (λ i. c * f i) ≡ c * sum n f
+sum-times : (n c : ℕ) (f g : ℕ → ℕ) → ((i : ℕ) → i < n → f i ≡ c * g i) → sum n f ≡ c * sum n g
 unfolding sum
-sum-times zero c f = omega arith
-sum-times (suc n) c f = omega (arith, sum-times n c f)
+sum-times zero c f g e = omega arith
+sum-times (suc n) c f g e = omega (arith, sum-times n c f g (λ i l. e i (le-step l)), e n (lt-suc-self n))
 
 pub sum-const : (n x : ℕ) → sum n (λ i. x) ≡ n * x
 unfolding sum
@@ -48,21 +49,18 @@ sum-first (suc n) f = omega (arith, sum-first n f)
 pub between-first : (n : ℕ) (f : ℕ → ℕ) {k : ℕ} → k ≤ n → sumBetween k n f ≡ f k + sumBetween (suc k) n f
 unfolding sumBetween
 between-first n f {k} l =
-    let here : suc n - k ≡ suc (n - k) = omega arith in
-    let next : suc n - suc k ≡ n - k = omega arith in
-    rw (here, next)
-    (sum-first (n - k) (λ i. f (k + i))
-    ∙ ap₂ _+_ (ap f (add-zero k)) (sum-cong (n - k) (λ i m. ap f (add-suc k i ∙ sym (suc-add k i)))))
+    let more : suc n - k ≡ suc (n - k) = omega arith in
+    simp (more, suc-sub-suc, suc-add) (simp (add-zero, add-suc) at (sum-first (n - k) (λ i. f (k + i))))
 
 pub between-last : (n : ℕ) (f : ℕ → ℕ) {k : ℕ} → k ≤ suc n → sumBetween k (suc n) f ≡ sumBetween k n f + f (suc n)
 unfolding sumBetween sum
 between-last n f {k} l =
     let more : suc (suc n) - k ≡ suc (suc n - k) = omega arith in
-    rw more (ap (λ z. sum (suc n - k) (λ i. f (k + i)) + f z) (add-sub-of-le l))
+    rw (more, add-sub-of-le l)
 
 pub between-none : (n : ℕ) (f : ℕ → ℕ) {k : ℕ} → n < k → sumBetween k n f ≡ 0
 unfolding sumBetween sum
-between-none n f {k} l = let none : suc n - k ≡ 0 = omega arith in rw none
+between-none n f {k} l = rw (sub-eq-zero-of-le l)
 
 -- The sums from 1, from 2, up to that from n have term j in them j times.
 pub between-total : (n : ℕ) (f : ℕ → ℕ) → sum n (λ i. sumBetween (suc i) n f) ≡ sum (suc n) (λ j. j * f j)
@@ -71,8 +69,7 @@ between-total zero f = omega arith
 between-total (suc n) f =
     omega (
       arith,
-      sum-cong (suc n) {f = λ i. sumBetween (suc i) (suc n) f} (λ i l. between-last n f l),
-      sum-plus (suc n) (λ i. sumBetween (suc i) n f) (λ i. f (suc n)),
+      sum-plus (suc n) (λ i. sumBetween (suc i) (suc n) f) (λ i. sumBetween (suc i) n f) (λ i. f (suc n)) (λ i l. between-last n f l),
       sum-const (suc n) (f (suc n)),
       between-none n f (lt-suc-self n),
       between-total n f,
@@ -82,8 +79,7 @@ between-total (suc n) f =
 
 pub choose-past : (n i : ℕ) → n < i → choose n i ≡ 0
 unfolding choose
-choose-past zero zero l = omega arith
-choose-past (suc n) zero l = omega arith
+choose-past n zero l = omega arith
 choose-past zero (suc i) l = refl
 choose-past (suc n) (suc i) l = omega (arith, choose-past n i (omega arith), choose-past n (suc i) (omega arith))
 
@@ -123,27 +119,19 @@ pub binomial-cong : (d : ℕ) {f g : ℕ → ℕ} → ((i : ℕ) → i ≤ d →
 unfolding binomialSum
 binomial-cong d h = sum-cong (suc d) (λ i l. ap (λ z. choose d i * z) (h i (le-of-suc-le-suc l)))
 
-pub binomial-plus : (d : ℕ) (f g : ℕ → ℕ) → binomialSum d (λ i. f i + g i) ≡ binomialSum d f + binomialSum d g
+pub binomial-times : (d c : ℕ) (f g : ℕ → ℕ) → ((i : ℕ) → i ≤ d → f i ≡ c * g i) → binomialSum d f ≡ c * binomialSum d g
 unfolding binomialSum
-binomial-plus d f g =
-    sum-cong (suc d) (λ i l. mul-add (choose d i) (f i) (g i)) ∙ sum-plus (suc d) (λ i. choose d i * f i) (λ i. choose d i * g i)
-
-pub binomial-times : (d c : ℕ) (f : ℕ → ℕ) → binomialSum d (λ i. c * f i) ≡ c * binomialSum d f
-unfolding binomialSum
-binomial-times d c f =
-    sum-cong (suc d) (λ i l. mul-left-comm (choose d i) c (f i)) ∙ sum-times (suc d) c (λ i. choose d i * f i)
+binomial-times d c f g e =
+    sum-times (suc d) c (λ i. choose d i * f i) (λ i. choose d i * g i) (λ i l. omega (arith, ap (λ z. choose d i * z) (e i (le-of-suc-le-suc l))))
 
 -- Pascal's rule for a whole sum.
 pub pascal : (d : ℕ) (h : ℕ → ℕ) → binomialSum (suc d) h ≡ binomialSum d h + binomialSum d (λ i. h (suc i))
 unfolding binomialSum choose sum
 pascal d h =
-    let rest : ℕ = sum (suc d) (λ i. choose d (suc i) * h (suc i)) in
-    let split : sum (suc d) (λ i. choose (suc d) (suc i) * h (suc i)) ≡ sum (suc d) (λ i. choose d i * h (suc i)) + rest =
-    sum-cong (suc d) (λ i l. add-mul (choose d i) (choose d (suc i)) (h (suc i)))
-    ∙ sum-plus (suc d) (λ i. choose d i * h (suc i)) (λ i. choose d (suc i) * h (suc i)) in
     omega (
       arith,
-      split,
+      sum-plus (suc d) (λ i. choose (suc d) (suc i) * h (suc i)) (λ i. choose d i * h (suc i)) (λ i. choose d (suc i) * h (suc i))
+          (λ i l. add-mul (choose d i) (choose d (suc i)) (h (suc i))),
       sum-first (suc d) (λ i. choose (suc d) i * h i),
       sum-first (suc d) (λ i. choose d i * h i),
       ap (λ z. z * h (suc d)) (choose-past d (suc d) (lt-suc-self d)),
@@ -153,12 +141,11 @@ pascal d h =
 pub binomial-mean : (n : ℕ) (f : ℕ → ℕ) → sum (suc (suc n)) (λ j. j * (choose (suc n) j * f j)) ≡ suc n * binomialSum n (λ i. f (suc i))
 unfolding binomialSum
 binomial-mean n f =
-    sum-first (suc n) (λ j. j * (choose (suc n) j * f j))
-    ∙ omega (
+    omega (
       arith,
-      sum-cong (suc n) {f = λ i. suc i * (choose (suc n) (suc i) * f (suc i))} {g = λ i. suc n * (choose n i * f (suc i))}
+      sum-first (suc n) (λ j. j * (choose (suc n) j * f j)),
+      sum-times (suc n) (suc n) (λ i. suc i * (choose (suc n) (suc i) * f (suc i))) (λ i. choose n i * f (suc i))
           (λ i l. omega (arith, ap (λ z. z * f (suc i)) (choose-absorb n i))),
-      sum-times (suc n) (suc n) (λ i. choose n i * f (suc i)),
     )
 
 -- ---- triangle numbers

@@ -1,7 +1,7 @@
 -- What the passes leave in each entry.
 -- Assumes nothing.
 use Prim.Native.Nat.{ℕ, zero, suc, _+_, _-_, min}
-use mathlib.Core.Path.{_≡_, refl, ap, _∙_}
+use mathlib.Core.Path.{_≡_, refl}
 use native.Mathlib.Omega.{arith}
 use native.Mathlib.Nat.{zero-min}
 use native.Mathlib.Decide.{decLe}
@@ -16,7 +16,7 @@ module _ {A : Type 0} (step : A → A → A) (f : ℕ → A) where
   passed-folded k (suc s) j = elim (decLe (k - suc s) j) [
     | yes l ↦
         let stays : min s (k - suc j) ≡ min (suc s) (k - suc j) = omega arith in
-        rw (le-ltb j (k - suc s) l) (passed-folded k s j ∙ ap (λ d. folded step d f j) stays)
+        rw (le-ltb j (k - suc s) l, passed-folded k s j, stays)
     | no l ↦
         let here : min s (k - suc j) ≡ s = omega arith in
         let next : min s (k - suc (suc j)) ≡ s = omega arith in
@@ -26,6 +26,4 @@ module _ {A : Type 0} (step : A → A → A) (f : ℕ → A) where
 
   -- After all k passes over k + 1 entries, d = k − j of them have reached entry j.
   pub passed-all : (k j d : ℕ) → j + d ≡ k → passed step (suc k) k f j ≡ folded step d f j
-  passed-all k j d e =
-      let reached : min k (suc k - suc j) ≡ d = omega arith in
-      passed-folded (suc k) k j ∙ ap (λ i. folded step i f j) reached
+  passed-all k j d e = let reached : min k (suc k - suc j) ≡ d = omega arith in rw (passed-folded (suc k) k j, reached)

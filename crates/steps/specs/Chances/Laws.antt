@@ -13,14 +13,15 @@ use Rattle.model.specs.Chances.Laws.{tail-next, tail-past, loss-none, loss-next
 use Rattle.kept.specs.declared.Kept.{Kept}
 use Rattle.kept.specs.declared.Side.{Side}
 use Rattle.kept.specs.declared.Side.the-variants.{Low, High}
-use Rattle.kept.specs.Accuracy.{Bound, Fine}
+use Rattle.kept.specs.Accuracy.{Bound, BudgetFor}
 use Rattle.kept.specs.Accuracy.Laws.{bound-exact, bound-weaken, bound-same, bound-integer, bound-product, bound-sum, bound-quotient}
 use Rattle.kept.specs.Rounding.{IsKept, value, round, roundedProduct, ofInteger}
 use Rattle.kept.specs.Rounding.Leading.{nought-same}
 use Rattle.kept.specs.Rounding.Laws.{nought-kept, round-cong, quotient-is, integer-is, integer-exact}
-use Rattle.steps.specs.Enclosure.{Enclosed, Bounded}
+use Rattle.steps.specs.Enclosure.{Enclosed}
+use Rattle.steps.specs.Budgets.{Bounded, chanceBudget, tailBudget, lossBudget}
 use Rattle.steps.specs.Enclosure.Laws.{bound-enclosed}
-use Rattle.steps.specs.Chances.{keptTotal, keptChance, keptTail, keptTerm, keptLoss, chanceBudget, tailBudget, lossBudget}
+use Rattle.steps.specs.Chances.{keptTotal, keptChance, keptTail, keptTerm, keptLoss}
 
 -- Step 4, for any exact value v of entry j.
 pub chance-bound : {side : Side} {b : ℕ} {entry : Kept} {v : Fraction} (n j : ℕ)
@@ -29,7 +30,8 @@ unfolding chanceBudget keptChance
 chance-bound {side} n j m = bound-weaken (omega arith) (bound-product (bound-integer side (choose n j)) m)
 
 -- Loss units below 2^32 are kept as they are.
-units-exact : (side : Side) (n R A B X : ℕ) → (B - A) * n < 2 ^ 32 → Same (value (ofInteger side (lossUnits n R A B X))) (integer (lossUnits n R A B X))
+units-exact : (side : Side) (n R A B X : ℕ) → (B - A) * n < 2 ^ 32
+    → Same (value (ofInteger side (lossUnits n R A B X))) (integer (lossUnits n R A B X))
 units-exact side n R A B X narrow = integer-exact side (lossUnits n R A B X) (lt-of-le-of-lt (loss-units-at-most n R A B X) narrow)
 
 pub loss-kept : (side : Side) (n : ℕ) (c : ℕ → Kept) (R A B : ℕ) (wide : 0 < (B - A) * n) → IsKept (keptLoss side n c R A B wide)
@@ -104,13 +106,13 @@ module _ {b : ℕ} {r : Chances} {c : Side → ℕ → Kept} (bounded : Bounded 
 
 -- Both bounds of each.
 module _ {g b : ℕ} {r : Chances} {c : Side → ℕ → Kept} (bounded : Bounded b r c) where
-  pub chance-enclosed : Fine g b → {j : ℕ} → j ≤ r .assets → Enclosed g (c Low j) (c High j) (chance r j)
-  chance-enclosed fine {j} l = bound-enclosed fine (bounded .bound Low j l) (bounded .bound High j l)
+  pub chance-enclosed : BudgetFor g b → {j : ℕ} → j ≤ r .assets → Enclosed g (c Low j) (c High j) (chance r j)
+  chance-enclosed fine {j} l = bound-enclosed fine (λ side. bounded .bound side j l)
 
-  pub tail-enclosed : Fine g (tailBudget (r .assets) b) → (k : ℕ)
+  pub tail-enclosed : BudgetFor g (tailBudget (r .assets) b) → (k : ℕ)
       → Enclosed g (keptTail Low (r .assets) (c Low) k) (keptTail High (r .assets) (c High) k) (tail r k)
-  tail-enclosed fine k = bound-enclosed fine (tail-bound bounded Low k) (tail-bound bounded High k)
+  tail-enclosed fine k = bound-enclosed fine (λ side. tail-bound bounded side k)
 
-  pub loss-enclosed : Fine g (lossBudget (r .assets) b) → (R A B : ℕ) → (B - A) * r .assets < 2 ^ 32 → (wide : 0 < (B - A) * r .assets)
+  pub loss-enclosed : BudgetFor g (lossBudget (r .assets) b) → (R A B : ℕ) → (B - A) * r .assets < 2 ^ 32 → (wide : 0 < (B - A) * r .assets)
       → Enclosed g (keptLoss Low (r .assets) (c Low) R A B wide) (keptLoss High (r .assets) (c High) R A B wide) (expectedLoss r R A B wide)
-  loss-enclosed fine R A B narrow wide = bound-enclosed fine (loss-bound bounded Low R A B narrow wide) (loss-bound bounded High R A B narrow wide)
+  loss-enclosed fine R A B narrow wide = bound-enclosed fine (λ side. loss-bound bounded side R A B narrow wide)

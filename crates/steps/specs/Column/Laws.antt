@@ -9,17 +9,17 @@ use native.Mathlib.Omega.{arith}
 use Rattle.model.specs.Number.{sum}
 use Rattle.model.specs.Fraction.{Fraction, Same, AtMost, Less, certainty, integer, plus, times}
 use Rattle.model.specs.Fraction.Laws.{same-sym, at-most-of-same, at-most-refl, at-most-trans, less-at-most-trans, plus-mono, plus-more, times-mono}
-use Rattle.model.specs.Chances.{Chances, Complete, share, chance, tailNumerator, tail}
+use Rattle.model.specs.Chances.{Chances, Complete, share, chance, tail}
 use Rattle.model.specs.Chances.Laws.{tail-next, tail-at-zero, tail-at-most-one}
 use Rattle.kept.specs.declared.Kept.{Kept}
 use Rattle.kept.specs.declared.Side.{Side}
 use Rattle.kept.specs.declared.Side.the-variants.{Low}
 use Rattle.kept.specs.Rounding.{IsKept, scaled, value, nought}
 use Rattle.kept.specs.Rounding.Laws.{nought-kept, sum-is}
-use Rattle.kept.specs.Accuracy.{precision, Bound}
+use Rattle.kept.specs.Accuracy.{precision}
 use Rattle.kept.specs.Accuracy.Laws.{precision-positive}
-use Rattle.steps.specs.Enclosure.{Bounded}
-use Rattle.steps.specs.Chances.{keptTotal, keptTail, tailBudget}
+use Rattle.steps.specs.Budgets.{Bounded, tailBudget}
+use Rattle.steps.specs.Chances.{keptTotal, keptTail}
 use Rattle.steps.specs.Chances.Laws.{tail-bound}
 use Rattle.steps.specs.Column.{unitsOfCertainty, inUnits, printedTail, printedRow, exactUnits, PrintsTails, Within, PrintsColumn}
 
@@ -35,33 +35,27 @@ row-near :
     → (row k : ℕ) → row + t (suc k) ≡ t k → k ≤ r .assets → Within (plus above below) (integer row) (exactUnits (chance r k))
 unfolding plus times integer exactUnits chance tail share
 row-near {above} {below} {r} {t} p row k rows l =
-    let U : ℕ = unitsOfCertainty in
-    let T : ℕ → ℕ = tailNumerator r in
-    let d : ℕ = r .denominator in
-    let w : ℕ = above .den in
     let m : ℕ = below .den in
-    let of-rows : (row + t (suc k)) * (d * w * m) ≡ t k * (d * w * m) = ap (λ z. z * (d * w * m)) rows in
-    let of-tails : U * T k * (w * m) ≡ U * (r .numerator k + T (suc k)) * (w * m) = ap (λ z. U * z * (w * m)) (tail-next r l) in
+    let of-rows = ap (λ z. z * (r .denominator * above .den * m)) rows in
+    let of-tails = ap (λ z. unitsOfCertainty * z * (above .den * m)) (tail-next r l) in
     record {
       not-above = omega (arith, mul-le-mul-right m (p .at-most k .cross), mul-lt-mul-of-pos-right (p .more-than (suc k) .cross) (above .positive));
       not-below = omega (arith, mul-le-mul-right m (p .at-most (suc k) .cross), mul-lt-mul-of-pos-right (p .more-than k .cross) (above .positive));
     }
 
--- The column of any printed tails: rows that are the differences of two tails.
-column-of-tails : {above below : Fraction} {r : Chances} {t : ℕ → ℕ} (rows : ℕ → ℕ) → PrintsTails above below r t
-    → ((k : ℕ) → rows k + t (suc k) ≡ t k) → PrintsColumn (plus above below) r t rows
-column-of-tails {r} rows p difference = record {
-  difference = difference;
-  last = omega (arith, difference (r .assets), p .past);
-  total = omega (arith, p .past, p .at-zero, rows-total rows difference (suc (r .assets)));
-  near = λ k. row-near p (rows k) k (difference k);
-}
-
--- The printed rows are such differences.
+-- The column of any printed tails: its rows are the differences of two of them.
 pub printed-column : {above below : Fraction} {r : Chances} (c : ℕ → Kept) → PrintsTails above below r (printedTail (r .assets) c)
     → PrintsColumn (plus above below) r (printedTail (r .assets) c) (printedRow (r .assets) c)
 unfolding printedRow
-printed-column {r} c p = column-of-tails (printedRow (r .assets) c) p (λ k. omega (arith, p .falls k))
+printed-column {r} c p =
+    let rows = printedRow (r .assets) c in
+    let difference : (k : ℕ) → rows k + printedTail (r .assets) c (suc k) ≡ printedTail (r .assets) c k = λ k. omega (arith, p .falls k) in
+    record {
+      difference = difference;
+      last = omega (arith, difference (r .assets), p .past);
+      total = omega (arith, p .past, p .at-zero, rows-total rows difference (suc (r .assets)));
+      near = λ k. row-near p (rows k) k (difference k);
+    }
 
 -- A wider distance.
 pub column-weaken : {off off' : Fraction} {r : Chances} {t rows : ℕ → ℕ} → AtMost off off' → PrintsColumn off r t rows → PrintsColumn off' r t rows
@@ -76,10 +70,6 @@ column-weaken l c = record {
 }
 
 -- ---- units
-
-integer-order : {q s : ℕ} → AtMost (integer q) (integer s) → q ≤ s
-unfolding integer
-integer-order l = omega arith
 
 units-order : {x y : Fraction} → AtMost x y → AtMost (exactUnits x) (exactUnits y)
 unfolding exactUnits
@@ -129,63 +119,56 @@ low-tail-falls n c k =
       | no l ↦ let as-many : suc n - k ≡ m = omega arith in rw as-many at-most-refl
     ]
 
-module _ {N : ℕ} (r : Chances) (c : ℕ → Kept) (low : (k : ℕ) → Bound Low N (keptTail Low (r .assets) c k) (tail r k)) (complete : Complete r) where
+module _ {b : ℕ} {r : Chances} {c : Side → ℕ → Kept} (bounded : Bounded b r c) (complete : Complete r) where
   abbrev low-tail : ℕ → Kept
-  low-tail = keptTail Low (r .assets) c
+  low-tail = keptTail Low (r .assets) (c Low)
 
   low-falls : (k : ℕ) → inUnits (low-tail (suc k)) ≤ inUnits (low-tail k)
-  low-falls k = in-units-best (low-tail k) (at-most-trans (in-units-at-most (low-tail (suc k))) (units-order (low-tail-falls (r .assets) c k)))
-
-  low-past : inUnits (low-tail (suc (r .assets))) ≡ 0
-  unfolding keptTail keptTotal
-  low-past = rw sub-self in-units-nought
+  low-falls k = in-units-best (low-tail k) (at-most-trans (in-units-at-most (low-tail (suc k))) (units-order (low-tail-falls (r .assets) (c Low) k)))
 
   low-at-most : (k : ℕ) → AtMost (integer (inUnits (low-tail k))) (exactUnits (tail r k))
-  low-at-most k = at-most-trans (in-units-at-most (low-tail k)) (units-order (low k .order))
+  low-at-most k = at-most-trans (in-units-at-most (low-tail k)) (units-order (tail-bound bounded Low k .order))
 
   low-at-most-one : (k : ℕ) → AtMost (integer (inUnits (low-tail k))) (integer unitsOfCertainty)
   low-at-most-one k =
       at-most-trans (low-at-most k) (at-most-trans (units-order (tail-at-most-one r complete k)) (at-most-of-same units-certainty))
 
-  module _ (below : Fraction) (slack : (precision + unitsOfCertainty * N) * below .den ≤ below .num * precision) where
-    low-more-than : (k : ℕ) → Less (exactUnits (tail r k)) (plus (integer (inUnits (low-tail k))) below)
-    unfolding exactUnits times plus integer certainty
-    low-more-than k =
-        let U : ℕ = unitsOfCertainty in
-        let B : ℕ = precision in
-        let x : Kept = low-tail k in
-        let v : Fraction = tail r k in
-        let d : ℕ = value x .den in
-        let parts : B ≤ B - N + N = omega arith in
-        let exact : U * v .num * B < (inUnits x * B + B + U * N) * v .den =
-        lt-of-mul-lt-mul-right d
-        (omega (
-          arith,
-          mul-lt-mul-of-pos-right (in-units-next x .cross) (mul-pos (v .positive) precision-positive),
-          mul-le-mul-right U (low k .near .cross),
-          mul-le-mul-right (U * d * N) (tail-at-most-one r complete k .cross),
-          mul-le-mul-right (U * v .num * d) parts,
-        )) in
-        record { cross = lt-of-mul-lt-mul-right B (omega (arith, mul-lt-mul-of-pos-right exact (below .positive), mul-le-mul-right (v .den) slack)) }
+  -- The tails of low chances that are b away, rounded down: one unit is lost by that, and 100,000 × budget / 2^31 by the low tail.
+  pub printed-tails : {below : Fraction} → (precision + unitsOfCertainty * tailBudget (r .assets) b) * below .den ≤ below .num * precision
+      → PrintsTails (integer 0) below r (printedTail (r .assets) (c Low))
+  unfolding printedTail
+  printed-tails {below} slack = record {
+    falls = λ k. elim k [ zero ↦ unfold integer in omega (arith, low-at-most-one 1 .cross) | suc j ↦ low-falls (suc j) ];
+    at-most = λ k. at-most-trans (elim k [ zero ↦ at-zero | suc j ↦ low-at-most (suc j) ]) (plus-more (exactUnits (tail r k)) (integer 0));
+    more-than = λ k. elim k [
+      | zero ↦ less-at-most-trans (more-than 0) (plus-mono (low-at-most-one 0) at-most-refl)
+      | suc j ↦ more-than (suc j)
+    ];
+    at-zero = refl;
+    past = unfold keptTail keptTotal in (rw sub-self in-units-nought);
+  }
+    where
+      at-zero : AtMost (integer unitsOfCertainty) (exactUnits (tail r 0))
+      at-zero = at-most-trans (at-most-of-same (same-sym units-certainty)) (units-order (at-most-of-same (same-sym (tail-at-zero r complete))))
 
-    printed-of-low : PrintsTails (integer 0) below r (printedTail (r .assets) c)
-    unfolding printedTail
-    printed-of-low = record {
-      falls = λ k. elim k [ zero ↦ integer-order (low-at-most-one 1) | suc j ↦ low-falls (suc j) ];
-      at-most = λ k. at-most-trans (elim k [ zero ↦ at-zero | suc j ↦ low-at-most (suc j) ]) (plus-more (exactUnits (tail r k)) (integer 0));
-      more-than = λ k. elim k [
-        | zero ↦ less-at-most-trans (low-more-than 0) (plus-mono (low-at-most-one 0) at-most-refl)
-        | suc j ↦ low-more-than (suc j)
-      ];
-      at-zero = refl;
-      past = low-past;
-    }
-      where
-        at-zero : AtMost (integer unitsOfCertainty) (exactUnits (tail r 0))
-        at-zero = at-most-trans (at-most-of-same (same-sym units-certainty)) (units-order (at-most-of-same (same-sym (tail-at-zero r complete))))
-
--- The tails of low chances that are b away, rounded down: one unit is lost by that, and 100,000 × budget / 2^31 by the low tail.
-pub printed-tails : {b : ℕ} {r : Chances} {c : Side → ℕ → Kept} {below : Fraction} → Bounded b r c → Complete r
-    → (precision + unitsOfCertainty * tailBudget (r .assets) b) * below .den ≤ below .num * precision
-    → PrintsTails (integer 0) below r (printedTail (r .assets) (c Low))
-printed-tails {r} {c} {below} bounded complete slack = printed-of-low r (c Low) (tail-bound bounded Low) complete below slack
+      more-than : (k : ℕ) → Less (exactUnits (tail r k)) (plus (integer (inUnits (low-tail k))) below)
+      more-than k =
+          let U : ℕ = unitsOfCertainty in
+          let B : ℕ = precision in
+          let N : ℕ = tailBudget (r .assets) b in
+          let x : Kept = low-tail k in
+          let v : Fraction = tail r k in
+          let d : ℕ = value x .den in
+          let parts : B ≤ B - N + N = omega arith in
+          unfold exactUnits times plus integer certainty in
+          let exact : U * v .num * B < (inUnits x * B + B + U * N) * v .den =
+          lt-of-mul-lt-mul-right d
+          (omega (
+            arith,
+            mul-lt-mul-of-pos-right (in-units-next x .cross) (mul-pos (v .positive) precision-positive),
+            mul-le-mul-right U (tail-bound bounded Low k .near .cross),
+            mul-le-mul-right (U * d * N) (tail-at-most-one r complete k .cross),
+            mul-le-mul-right (U * v .num * d) parts,
+          )) in
+          let raised = mul-lt-mul-of-pos-right exact (below .positive) in
+          record { cross = lt-of-mul-lt-mul-right B (omega (arith, mul-le-mul-right (v .den) slack)) }

@@ -2,25 +2,22 @@
 -- Assumes nothing.
 use Prim.Native.Nat.{ℕ, _*_, _<_}
 use mathlib.Core.Path.{_≡_, ap}
-use mathlib.Core.Logic.{inl, inr}
-use native.Mathlib.Nat.{eq-zero-or-pos, mul-pos}
+use native.Mathlib.Nat.{eq-of-mul-eq-mul-left}
 use native.Mathlib.Omega.{arith}
 use Rattle.model.specs.Fraction.{Fraction, AtMost, integer, plus, times}
 use Rattle.model.specs.Fraction.Laws.{same-sym}
 use Rattle.kept.specs.declared.Kept.{Kept}
+use Rattle.kept.specs.declared.Side.{Side}
 use Rattle.kept.specs.declared.Side.the-variants.{Low, High}
 use Rattle.kept.specs.Rounding.{IsKept, value, nought}
 use Rattle.kept.specs.Rounding.Leading.{nought-same}
 use Rattle.kept.specs.Rounding.Laws.{kept-unique, nought-kept}
-use Rattle.kept.specs.Accuracy.{Bound, Fine}
+use Rattle.kept.specs.Accuracy.{Bound, BudgetFor}
 use Rattle.kept.specs.Accuracy.Laws.{bound-distance}
 use Rattle.steps.specs.Enclosure.{Enclosed}
 
 mul-zero-right : {g x : ℕ} → 0 < g → g * x ≡ 0 → x ≡ 0
-mul-zero-right {g} {x} positive none = elim (eq-zero-or-pos x) [
-  | inl is ↦ is
-  | inr above ↦ absurd (omega (arith, mul-pos positive above))
-]
+mul-zero-right {g} {x} positive none = eq-of-mul-eq-mul-left g positive x 0 (omega arith)
 
 -- A kept number of value zero is zero.
 kept-of-zero : {x : Kept} → IsKept x → value x .num ≡ 0 → x ≡ nought
@@ -29,17 +26,18 @@ kept-of-zero {x} kept none = kept-unique kept nought-kept (same-sym (nought-same
 at-most-zero : {x y : Fraction} → AtMost x y → y .num ≡ 0 → x .num ≡ 0
 at-most-zero {x} {y} l none = mul-zero-right (y .positive) (omega (arith, l .cross, ap (λ z. z * x .den) none))
 
-pub bound-enclosed : {g b : ℕ} {low high : Kept} {v : Fraction} → Fine g b → Bound Low b low v → Bound High b high v → Enclosed g low high v
+pub bound-enclosed : {g b : ℕ} {x : Side → Kept} {v : Fraction} → BudgetFor g b → ((side : Side) → Bound side b (x side) v)
+    → Enclosed g (x Low) (x High) v
 unfolding times plus integer
-bound-enclosed {g} {low} {high} {v} fine l h =
-    let apart : AtMost (times (integer g) (value high)) (plus v (times (integer g) (value low))) = bound-distance fine l h in
-    let low-zero : v .num ≡ 0 → value low .num ≡ 0 = at-most-zero (l .order) in
-    let high-zero : v .num ≡ 0 → value high .num ≡ 0 = λ none.
+bound-enclosed {g} {x} {v} fine near =
+    let apart = bound-distance fine (near Low) (near High) in
+    let low-zero : v .num ≡ 0 → value (x Low) .num ≡ 0 = at-most-zero (near Low .order) in
+    let high-zero : v .num ≡ 0 → value (x High) .num ≡ 0 = λ none.
     mul-zero-right (fine .positive)
-    (at-most-zero apart (omega (arith, ap (λ z. z * value low .den) none, ap (λ z. g * z * v .den) (low-zero none)))) in
+    (at-most-zero apart (omega (arith, ap (λ z. z * value (x Low) .den) none, ap (λ z. g * z * v .den) (low-zero none)))) in
     record {
-      from-below = l .order;
-      from-above = h .order;
+      from-below = near Low .order;
+      from-above = near High .order;
       distance = apart;
-      of-zero = λ none. (kept-of-zero (l .kept) (low-zero none), kept-of-zero (h .kept) (high-zero none));
+      of-zero = λ none. (kept-of-zero (near Low .kept) (low-zero none), kept-of-zero (near High .kept) (high-zero none));
     }

@@ -3,9 +3,10 @@
 use Prim.Native.Nat.{ℕ, suc, _-_, _*_, _<_}
 use mathlib.Core.Path.{_≡_, refl}
 use mathlib.Core.Logic.{_⊎_, inl, inr}
-use mathlib.Core.Bool.{Bool, true, false, cond}
+use mathlib.Core.Bool.{false}
 use native.Mathlib.Nat.{mul-pos, mul-le-mul-right, le-of-mul-le-mul-right}
 use native.Mathlib.Omega.{arith}
+use native.Mathlib.Decide.{decLe}
 use borrow.Author.Tests.{lt-ltb, le-ltb, ne-eqb}
 use lib.Dec.{eqb, lit<, lit≤}
 use lib.IntN.{negsuc}
@@ -15,10 +16,10 @@ use Rattle.model.specs.Chances.{Chances, Complete, expectedLoss}
 use Rattle.model.specs.Chances.Laws.{loss-at-most-one}
 use Rattle.kept.specs.declared.Kept.{Kept}
 use Rattle.kept.specs.declared.Side.the-variants.{Low, High}
-use Rattle.kept.specs.Rounding.{IsKept, Normal, scaled, value, nought}
+use Rattle.kept.specs.Rounding.{IsKept, scaled, value, nought}
 use Rattle.kept.specs.Rounding.Powers.{scaled-shift}
 use Rattle.kept.specs.Binary64.{leastShown, belowShown, toBinary64, Shown}
-use Rattle.kept.specs.Binary64.Laws.{below-shown-yes, below-shown-no, shown-binary64}
+use Rattle.kept.specs.Binary64.Laws.{shown-binary64}
 use Rattle.steps.specs.Chances.{keptLoss}
 use Rattle.steps.specs.Chances.Laws.{loss-kept}
 use Rattle.steps.specs.Enclosure.{Enclosed}
@@ -34,22 +35,21 @@ pub least-shown-value : Same (value keptLeastShown) leastShown
 unfolding keptLeastShown leastShown
 least-shown-value = same-sym (scaled-shift 1 (negsuc 830) 31 refl)
 
+less-or-not : (x y : Fraction) → Less x y ⊎ AtMost y x
+less-or-not x y = elim (decLe (y .num * x .den) (x .num * y .den)) [ yes l ↦ inr (record { cross = l }) | no l ↦ inl (omega arith) ]
+
 -- The greater of the two: at or above both, and one of them.
 pub raised-greater : (x : Kept)
     → (AtMost (value x) (value (raisedToShown x)))
     × (AtMost leastShown (value (raisedToShown x)))
     × ((raisedToShown x ≡ x) ⊎ (raisedToShown x ≡ keptLeastShown))
-unfolding raisedToShown
-raised-greater x = by-test (belowShown x) refl
-  where
-    by-test : (t : Bool) → belowShown x ≡ t
-        → (AtMost (value x) (value (cond t keptLeastShown x)))
-        × (AtMost leastShown (value (cond t keptLeastShown x)))
-        × ((cond t keptLeastShown x ≡ x) ⊎ (cond t keptLeastShown x ≡ keptLeastShown))
-    by-test true test =
-        let least : AtMost leastShown (value keptLeastShown) = at-most-of-same (same-sym least-shown-value) in
-        (at-most-trans (at-most-of-less (below-shown-yes x test)) least, least, inr refl)
-    by-test false test = (omega arith, below-shown-no x test, inl refl)
+unfolding raisedToShown belowShown
+raised-greater x = elim (less-or-not (value x) leastShown) [
+  | inl below ↦
+      let least : AtMost leastShown (value keptLeastShown) = at-most-of-same (same-sym least-shown-value) in
+      rw (lt-ltb _ _ (below .cross)) (at-most-trans (at-most-of-less below) least, least, inr refl)
+  | inr least ↦ rw (le-ltb _ _ (least .cross)) (omega arith, least, inl refl)
+]
 
 -- ---- when each answer is given
 
@@ -57,17 +57,17 @@ pub answer-untouched : (low high : Kept) → high ≡ nought → lossAnswer low 
 unfolding lossAnswer nought
 answer-untouched low high is = rw is refl
 
--- The test for zero of a kept number that is not zero.
-tests-not-zero : {x : Kept} → IsKept x → (x ≡ nought → ⊥) → eqb (x .significand) 0 ≡ false
-tests-not-zero {x} kept not = ne-eqb (x .significand) 0 (λ none. elim (kept .form) [ inl is ↦ not is | inr normal ↦ omega arith ])
+module _ (low high : Kept) (kept : IsKept high) (not : high ≡ nought → ⊥) where
+  tests-not-zero : eqb (high .significand) 0 ≡ false
+  tests-not-zero = ne-eqb (high .significand) 0 (λ none. elim (kept .form) [ inl is ↦ not is | inr normal ↦ omega arith ])
 
-pub answer-faint : (low high : Kept) → IsKept high → (high ≡ nought → ⊥) → Less (value low) leastShown → lossAnswer low high ≡ faint (toBinary64 (raisedToShown high))
-unfolding lossAnswer belowShown
-answer-faint low high kept not below = rw (tests-not-zero kept not, lt-ltb _ _ (below .cross)) refl
+  pub answer-faint : Less (value low) leastShown → lossAnswer low high ≡ faint (toBinary64 (raisedToShown high))
+  unfolding lossAnswer belowShown
+  answer-faint below = rw (tests-not-zero, lt-ltb _ _ (below .cross)) refl
 
-pub answer-shown : (low high : Kept) → IsKept high → (high ≡ nought → ⊥) → AtMost leastShown (value low) → lossAnswer low high ≡ shown (toBinary64 low) (toBinary64 high)
-unfolding lossAnswer belowShown
-answer-shown low high kept not least = rw (tests-not-zero kept not, le-ltb _ _ (least .cross)) refl
+  pub answer-shown : AtMost leastShown (value low) → lossAnswer low high ≡ shown (toBinary64 low) (toBinary64 high)
+  unfolding lossAnswer belowShown
+  answer-shown least = rw (tests-not-zero, le-ltb _ _ (least .cross)) refl
 
 -- ---- what it says
 
@@ -108,41 +108,34 @@ high-to-two {g} {low} {high} {v} positive enclosed most =
     }
 
 -- What it says, of an exact loss of at most one between two bounds.
-answer-says : {g : ℕ} {low high : Kept} {v : Fraction} → 0 < g → IsKept low → IsKept high → Enclosed g low high v → AtMost v certainty → Says g low high v (lossAnswer low high)
+answer-says : {g : ℕ} {low high : Kept} {v : Fraction} → 0 < g → IsKept low → IsKept high → Enclosed g low high v → AtMost v certainty
+    → Says g low high v (lossAnswer low high)
 unfolding integer nought scaled
-answer-says {g} {low} {high} {v} positive kept-low kept-high enclosed most = by-form (kept-high .form)
-  where
-    high-most : AtMost (value high) (integer 2)
-    high-most = high-to-two positive enclosed most
-
-    order : AtMost (value low) (value high)
-    order = at-most-trans (enclosed .from-below) (enclosed .from-above)
-
-    by-test : (high ≡ nought → ⊥) → (t : Bool) → belowShown low ≡ t → Says g low high v (lossAnswer low high)
-    by-test not true test =
-        let below = below-shown-yes low test in
-        rw (answer-faint low high kept-high not below) (record {
+answer-says {g} {low} {high} {v} positive kept-low kept-high enclosed most = elim (kept-high .form) [
+  | inl is ↦
+      let exact-zero : v .num ≡ 0 = omega (arith, (rw is at (enclosed .from-above)) .cross) in
+      rw (answer-untouched low high is) (record { high-zero = is; low-zero = enclosed .of-zero exact-zero .0; exact-zero = omega arith })
+  | inr normal ↦
+      let not : high ≡ nought → ⊥ = λ is. omega (arith, (rw is at normal) .least) in
+      let high-most = high-to-two positive enclosed most in
+      let order = at-most-trans (enclosed .from-below) (enclosed .from-above) in
+      elim (less-or-not (value low) leastShown) [
+        | inl below ↦ rw (answer-faint low high kept-high not below) (record {
           low-below = below;
           high-not-zero = not;
           is = shown-binary64 (raised-shown kept-high high-most);
           from-exact = at-most-trans (enclosed .from-above) (raised-greater high .0);
           from-least = raised-greater high .1;
         })
-    by-test not false test =
-        let least = below-shown-no low test in
-        rw (answer-shown low high kept-high not least) (record {
+        | inr least ↦ rw (answer-shown low high kept-high not least) (record {
           low-not-below = least;
           high-not-zero = not;
           lower-is = shown-binary64 (shown-to-two kept-low least (at-most-trans order high-most));
           upper-is = shown-binary64 (shown-to-two kept-high (at-most-trans least order) high-most);
           enclosed = enclosed;
         })
-
-    by-form : (high ≡ nought) ⊎ Normal (high .significand) → Says g low high v (lossAnswer low high)
-    by-form (inl is) =
-        let none : v .num ≡ 0 = omega (arith, (rw is at (enclosed .from-above)) .cross) in
-        rw (answer-untouched low high is) (record { high-zero = is; low-zero = enclosed .of-zero none .0; exact-zero = omega arith })
-    by-form (inr normal) = by-test (λ is. omega (arith, (rw is at normal) .least)) (belowShown low) refl
+      ]
+]
 
 -- The tranche losses of a row of chances in general.
 pub tranche-says : {g : ℕ} → 0 < g → (r : Chances) (low high : ℕ → Kept) → Complete r → (R A B : ℕ) (wide : 0 < (B - A) * r .assets)
@@ -150,4 +143,5 @@ pub tranche-says : {g : ℕ} → 0 < g → (r : Chances) (low high : ℕ → Kep
     → Says g (keptLoss Low (r .assets) low R A B wide) (keptLoss High (r .assets) high R A B wide) (expectedLoss r R A B wide)
     (lossAnswer (keptLoss Low (r .assets) low R A B wide) (keptLoss High (r .assets) high R A B wide))
 tranche-says positive r low high complete R A B wide enclosed =
-    answer-says positive (loss-kept Low (r .assets) low R A B wide) (loss-kept High (r .assets) high R A B wide) enclosed (loss-at-most-one r R A B wide complete)
+    answer-says positive (loss-kept Low (r .assets) low R A B wide) (loss-kept High (r .assets) high R A B wide) enclosed
+    (loss-at-most-one r R A B wide complete)

@@ -7,15 +7,12 @@ use Rattle.model.specs.CorrelatedBinomial.{probability, defaults}
 use Rattle.kept.specs.declared.Kept.{Kept}
 use Rattle.kept.specs.declared.Side.{Side}
 use Rattle.kept.specs.declared.Side.the-variants.{Low, High}
-use Rattle.steps.specs.Rows.{keptRow, rowBudget}
-use Rattle.steps.specs.Chances.{keptChance, keptTail, keptLoss, chanceBudget, lossBudget}
+use Rattle.steps.specs.CorrelatedBinomial.Rows.{keptRow}
+use Rattle.steps.specs.Chances.{keptChance, keptTail, keptLoss}
 use Rattle.steps.specs.Enclosure.{Enclosed}
-use Rattle.steps.specs.Exponents.{RowNumber, ChanceNumber, TailNumber, LossNumber}
+pub mod Rows
+pub mod Exponents
 pub mod Theorems
-
--- The largest number of assets.
-unfoldable pub largestPool : ℕ
-largestPool = 64
 
 -- The chances of 0 to n defaults in any order, by steps 1 to 4.
 unfoldable pub keptDefaults : (side : Side) (n p ρ : ℕ) → ℕ → Kept
@@ -34,10 +31,6 @@ unfoldable pub poolLoss : (n p ρ R A B : ℕ) → 0 < (B - A) * n → Fraction
 unfolding defaults
 poolLoss n p ρ R A B wide = expectedLoss (defaults n p ρ) R A B wide
 
--- The budget of a tranche loss, the largest among those of entries, chances, tails and losses.
-unfoldable pub poolBudget : ℕ → ℕ
-poolBudget n = lossBudget n (chanceBudget (rowBudget n))
-
 -- Enclosure and distance of all that the steps make for a pool: bounds at most one part in g apart.
 pub record PoolEnclosed (g n p ρ : ℕ) : Type 0 where
   -- Entry j of row k, with P(j,k) by its closed form.
@@ -49,10 +42,3 @@ pub record PoolEnclosed (g n p ρ : ℕ) : Type 0 where
   -- Step 6, with the expected loss of a tranche.
   pub losses : (R A B : ℕ) → B ≤ whole → (wide : 0 < (B - A) * n)
       → Enclosed g (keptPoolLoss Low n p ρ R A B wide) (keptPoolLoss High n p ρ R A B wide) (poolLoss n p ρ R A B wide)
-
--- Every number that the steps make for a pool, and for each tranche on it.
-pub data PoolNumber (side : Side) (n p ρ : ℕ) : Kept → Type 0 where
-  of-rows : {x : Kept} → RowNumber side n p ρ x → PoolNumber side n p ρ x
-  of-chances : {x : Kept} → ChanceNumber side n (keptRow side p ρ n) x → PoolNumber side n p ρ x
-  of-tails : {x : Kept} → TailNumber side n (keptDefaults side n p ρ) x → PoolNumber side n p ρ x
-  of-losses : {x : Kept} (R A B : ℕ) → B ≤ whole → LossNumber side n (keptDefaults side n p ρ) R A B x → PoolNumber side n p ρ x

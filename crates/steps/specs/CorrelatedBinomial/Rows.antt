@@ -1,10 +1,9 @@
 -- Steps 1 to 3: the rows of kept numbers that bound P(j,k), for one side, from the default probability p and the correlation ρ in basis points. Each
 -- product and each sum is rounded once. With a = 1 − p and q = 1 − ρ.
 -- Assumes nothing.
-use Prim.Native.Nat.{ℕ, zero, suc, _*_}
+use Prim.Native.Nat.{ℕ, zero, suc}
 use mathlib.Core.Bool.{cond}
 use lib.Dec.{ltb}
-use Rattle.model.specs.Number.{triangle}
 use Rattle.model.specs.Fraction.{complement}
 use Rattle.model.specs.Passes.{passed}
 use Rattle.kept.specs.declared.Kept.{Kept}
@@ -36,9 +35,9 @@ module _ (side : Side) where
   unfoldable pub keptWeight : (p ρ j : ℕ) → Kept
   keptWeight p ρ j = roundedProduct side (constant (complement p)) (keptPower ρ j)
 
-  -- Step 3, one entry of a pass: old entry j, plus the product of ρ and old entry j + 1.
-  unfoldable pub keptPassStep : (ρ : ℕ) → Kept → Kept → Kept
-  keptPassStep ρ x y = roundedSum side x (roundedProduct side (constant ρ) y)
+  -- Step 3, one entry of a pass with the kept ρ: old entry j, plus the product of ρ and old entry j + 1.
+  unfoldable pub keptPassStep : (correlation x y : Kept) → Kept
+  keptPassStep correlation x y = roundedSum side x (roundedProduct side correlation y)
 
   -- Entry j of row k. Row 0 has one entry, and that is one. Row k + 1 starts with the k + 1 entries of row k; after its passes 1 to k, entry j for j up to k
   -- is multiplied by g_j, and entry k + 1 is m_(k+1).
@@ -46,9 +45,5 @@ module _ (side : Side) where
   keptRow p ρ zero j = unity
   keptRow p ρ (suc k) j =
       cond (ltb j (suc k))
-      (roundedProduct side (passed (keptPassStep ρ) (suc k) k (keptRow p ρ k) j) (keptWeight p ρ j))
+      (roundedProduct side (passed (keptPassStep (constant ρ)) (suc k) k (keptRow p ρ k) j) (keptWeight p ρ j))
       (keptJoint p ρ k)
-
--- How many parts in 2^31 an entry of row k can be away from its exact value: 3 × T(k).
-unfoldable pub rowBudget : ℕ → ℕ
-rowBudget k = 3 * triangle k

@@ -3,7 +3,7 @@
 -- Assumes nothing.
 use Prim.Native.Nat.{ℕ, _-_, _*_, _^_, _≤_, _<_}
 use native.Mathlib.Omega.{arith}
-use native.Mathlib.Nat.{mul-le-mul-right}
+use native.Mathlib.Nat.{le-trans, mul-le-mul-right}
 use lib.Dec.{lit<, lit≤}
 use Rattle.model.specs.Number.{triangle}
 use Rattle.model.specs.Number.Laws.{triangle-mono}
@@ -15,23 +15,33 @@ use Rattle.model.specs.CorrelatedBinomial.Theorems.{probability-at-most-one, de
 use Rattle.kept.specs.declared.Kept.{Kept}
 use Rattle.kept.specs.declared.Side.{Side}
 use Rattle.kept.specs.declared.Side.the-variants.{Low, High}
-use Rattle.kept.specs.Accuracy.{precision, Fine}
-use Rattle.kept.specs.Accuracy.Laws.{bound-same, fine-weaken}
-use Rattle.steps.specs.Rows.{rowBudget}
-use Rattle.steps.specs.Rows.Laws.{entry-bound}
-use Rattle.steps.specs.Chances.{chanceBudget, tailBudget, lossBudget}
+use Rattle.kept.specs.Accuracy.{precision, BudgetFor}
+use Rattle.kept.specs.Accuracy.Laws.{bound-same, budget-for-weaken}
+use Rattle.steps.specs.Budgets.{rowBudget, chanceBudget, tailBudget, lossBudget, Bounded, poolBudget, WithinBudgets}
+use Rattle.steps.specs.CorrelatedBinomial.Rows.Laws.{entry-bound}
 use Rattle.steps.specs.Chances.Laws.{chance-bound, chance-enclosed, tail-enclosed, loss-enclosed}
-use Rattle.steps.specs.Enclosure.{Bounded}
 use Rattle.steps.specs.Enclosure.Laws.{bound-enclosed}
 use Rattle.steps.specs.Column.{unitsOfCertainty, printedTail, printedRow, tenths, PrintsTails, PrintsColumn}
 use Rattle.steps.specs.Column.Laws.{printed-tails, printed-column, column-weaken}
-use Rattle.steps.specs.Exponents.{Ranged, Room}
-use Rattle.steps.specs.Exponents.Laws.{rows-ranged, chances-ranged, tails-ranged, losses-ranged}
+use Rattle.steps.specs.Exponents.{Ranged}
+use Rattle.steps.specs.CorrelatedBinomial.Exponents.Laws.{rows-ranged}
+use Rattle.steps.specs.Exponents.Laws.{chances-ranged, tails-ranged, losses-ranged}
 use Rattle.steps.specs.Loss.{lossAnswer, Says}
 use Rattle.steps.specs.Loss.Laws.{tranche-says}
-use Rattle.steps.specs.Pool.{largestPool, keptDefaults, keptPoolTail, keptPoolLoss, poolLoss, poolBudget, PoolEnclosed, PoolNumber, of-rows, of-chances, of-tails, of-losses}
+use Rattle.steps.specs.Inputs.{largestPool, workingAssets, InRange}
+use Rattle.steps.specs.Inputs.Laws.{pool-works}
+use Rattle.steps.specs.CorrelatedBinomial.{keptDefaults, keptPoolTail, keptPoolLoss, poolLoss, PoolEnclosed}
+use Rattle.steps.specs.CorrelatedBinomial.Exponents.{PoolNumber, of-rows, of-chances, of-tails, of-losses}
 
-module _ (n p ρ : ℕ) (p≤1 : p ≤ whole) (ρ≤1 : ρ ≤ whole) where
+-- ---- with the number of assets and the distance left open
+
+module _ {most n p ρ : ℕ} (range : InRange most n p ρ) where
+  p≤1 : p ≤ whole
+  p≤1 = range .probability
+
+  ρ≤1 : ρ ≤ whole
+  ρ≤1 = range .correlation
+
   complete : Complete (defaults n p ρ)
   complete = defaults-complete p ρ p≤1 ρ≤1 n
 
@@ -40,27 +50,24 @@ module _ (n p ρ : ℕ) (p≤1 : p ≤ whole) (ρ≤1 : ρ ≤ whole) where
   unfolding keptDefaults defaults chance share probability times integer over
   defaults-bounded = record { bound = λ side j l. bound-same (omega arith) (chance-bound n j (entry-bound side p ρ p≤1 ρ≤1 l)) }
 
-  -- ---- with the number of assets and the distance left open
-
-  module _ (room : Room n) where
+  module _ (within : WithinBudgets n) where
     -- Loss units are whole numbers below 2^32.
     narrow : (A B : ℕ) → B ≤ whole → (B - A) * n < 2 ^ 32
     unfolding whole
-    narrow A B B≤1 = let part : B - A ≤ whole = omega arith in omega (arith, mul-le-mul-right n part, room .assets)
+    narrow A B B≤1 = let part : B - A ≤ whole = omega arith in omega (arith, mul-le-mul-right n part, within .assets)
 
     -- Where two numbers at the pool's budget are at most one part in g apart, all bounds are.
-    pub pool-enclosed : {g : ℕ} → Fine g (poolBudget n) → PoolEnclosed g n p ρ
+    pub pool-enclosed : {g : ℕ} → BudgetFor g (poolBudget n) → PoolEnclosed g n p ρ
     unfolding defaults poolLoss keptPoolLoss keptPoolTail poolBudget lossBudget tailBudget chanceBudget rowBudget
     pool-enclosed fine = record {
-      entries = λ l m.
-          bound-enclosed (fine-weaken (omega (arith, triangle-mono m)) fine) (entry-bound Low p ρ p≤1 ρ≤1 l) (entry-bound High p ρ p≤1 ρ≤1 l);
-      chances = chance-enclosed defaults-bounded (fine-weaken (omega arith) fine);
-      tails = tail-enclosed defaults-bounded (fine-weaken (omega arith) fine);
+      entries = λ l m. bound-enclosed (budget-for-weaken (omega (arith, triangle-mono m)) fine) (λ side. entry-bound side p ρ p≤1 ρ≤1 l);
+      chances = chance-enclosed defaults-bounded (budget-for-weaken (omega arith) fine);
+      tails = tail-enclosed defaults-bounded (budget-for-weaken (omega arith) fine);
       losses = λ R A B B≤1 wide. loss-enclosed defaults-bounded fine R A B (narrow A B B≤1) wide;
     }
 
     -- What the answer to a tranche loss says.
-    pub pool-answer : {g : ℕ} → Fine g (poolBudget n) → (R A B : ℕ) → B ≤ whole → (wide : 0 < (B - A) * n)
+    pub pool-answer : {g : ℕ} → BudgetFor g (poolBudget n) → (R A B : ℕ) → B ≤ whole → (wide : 0 < (B - A) * n)
         → Says g (keptPoolLoss Low n p ρ R A B wide) (keptPoolLoss High n p ρ R A B wide) (poolLoss n p ρ R A B wide)
         (lossAnswer (keptPoolLoss Low n p ρ R A B wide) (keptPoolLoss High n p ρ R A B wide))
     unfolding defaults poolLoss keptPoolLoss
@@ -70,41 +77,43 @@ module _ (n p ρ : ℕ) (p≤1 : p ≤ whole) (ρ≤1 : ρ ≤ whole) where
 
     pub pool-ranged : (side : Side) {x : Kept} → PoolNumber side n p ρ x → Ranged x
     unfolding defaults probability over certainty lossBudget chanceBudget rowBudget triangle
-    pool-ranged side (of-rows number) = rows-ranged side room p≤1 ρ≤1 number
+    pool-ranged side (of-rows number) = rows-ranged side within p≤1 ρ≤1 number
     pool-ranged side (of-chances number) =
         chances-ranged (λ j. probability p ρ j n) (λ j l. entry-bound side p ρ p≤1 ρ≤1 l)
-        (λ j l. omega (arith, probability-at-most-one p ρ p≤1 ρ≤1 l .cross)) (λ j l. whole-digits (triangle n))
-        (omega (arith, room .parts)) (omega (arith, room .places)) (room .assets) number
+        (λ j l. omega (arith, probability-at-most-one p ρ p≤1 ρ≤1 l .cross)) (λ j l. whole-digits (triangle n)) (omega arith) number
     pool-ranged side (of-tails number) =
-        tails-ranged defaults-bounded complete side (14 * triangle n)
-        (omega (arith, room .parts)) (whole-digits (triangle n)) (omega (arith, room .places)) number
+        tails-ranged defaults-bounded complete side (14 * triangle n) (whole-digits (triangle n)) (omega arith) number
     pool-ranged side (of-losses R A B B≤1 number) =
-        losses-ranged defaults-bounded complete side (14 * triangle n)
-        (omega (arith, room .parts)) (whole-digits (triangle n)) (omega (arith, room .places)) R A B (narrow A B B≤1) number
+        losses-ranged defaults-bounded complete side (14 * triangle n) (whole-digits (triangle n)) (omega arith) R A B (narrow A B B≤1) number
 
-  -- ---- for up to 64 assets
+-- ---- for the pools of the calls
 
-  module _ (n≤64 : n ≤ largestPool) where
-    pub pool-room : Room n
-    unfolding rowBudget precision largestPool triangle
-    pool-room = let most = triangle-mono n≤64 in record { parts = omega arith; places = omega arith; assets = omega arith }
+pub within-budgets : {n : ℕ} → n ≤ workingAssets → WithinBudgets n
+unfolding rowBudget precision workingAssets triangle
+within-budgets few = let most = triangle-mono few in record { parts = omega arith; places = omega arith; assets = omega arith }
 
-    pub pool-fine : Fine 100000 (poolBudget n)
+module _ {n p ρ : ℕ} where
+  -- Every number that the steps make has an exponent from −80,000 to 100.
+  pub exponents : InRange workingAssets n p ρ → (side : Side) {x : Kept} → PoolNumber side n p ρ x → Ranged x
+  exponents range = pool-ranged range (within-budgets (range .assets))
+
+  module _ (range : InRange largestPool n p ρ) where
+    within : WithinBudgets n
+    within = within-budgets (le-trans (range .assets) pool-works)
+
+    pub pool-budget : BudgetFor 100000 (poolBudget n)
     unfolding largestPool poolBudget lossBudget chanceBudget rowBudget precision triangle
-    pool-fine = fine-weaken {m = poolBudget largestPool} (omega (arith, triangle-mono n≤64)) (record { positive = lit< tt; small = lit≤ tt })
+    pool-budget =
+        budget-for-weaken {m = poolBudget largestPool} (omega (arith, triangle-mono (range .assets))) (record { positive = lit< tt; small = lit≤ tt })
 
     -- Both bounds of every entry, chance, tail and tranche loss, at most one part in 100,000 apart.
     pub enclosure : PoolEnclosed 100000 n p ρ
-    enclosure = pool-enclosed pool-room pool-fine
-
-    -- Every number that the steps make has an exponent from −80,000 to 100.
-    pub exponents : (side : Side) {x : Kept} → PoolNumber side n p ρ x → Ranged x
-    exponents = pool-ranged pool-room
+    enclosure = pool-enclosed range within pool-budget
 
     -- The printed tails are not above the exact ones and less than 1.3 units below them.
     pub printed : PrintsTails (integer 0) (tenths 13) (defaults n p ρ) (printedTail n (keptDefaults Low n p ρ))
     unfolding defaults tailBudget chanceBudget rowBudget tenths precision unitsOfCertainty largestPool triangle
-    printed = printed-tails defaults-bounded complete (omega (arith, triangle-mono n≤64))
+    printed = printed-tails (defaults-bounded range) (complete range) (omega (arith, triangle-mono (range .assets)))
 
     -- The printed rows add to 100,000, none is below zero, and each is less than 1.5 units from the exact chance.
     pub column : PrintsColumn (tenths 15) (defaults n p ρ) (printedTail n (keptDefaults Low n p ρ)) (printedRow n (keptDefaults Low n p ρ))
@@ -115,4 +124,4 @@ module _ (n p ρ : ℕ) (p≤1 : p ≤ whole) (ρ≤1 : ρ ≤ whole) where
     pub answer : (R A B : ℕ) → B ≤ whole → (wide : 0 < (B - A) * n)
         → Says 100000 (keptPoolLoss Low n p ρ R A B wide) (keptPoolLoss High n p ρ R A B wide) (poolLoss n p ρ R A B wide)
         (lossAnswer (keptPoolLoss Low n p ρ R A B wide) (keptPoolLoss High n p ρ R A B wide))
-    answer = pool-answer pool-room pool-fine
+    answer = pool-answer range within pool-budget

@@ -1,0 +1,25 @@
+-- What the inputs of a pool and of a tranche are.
+-- Assumes nothing.
+use Prim.Native.Nat.{ℕ, _≤_, _<_}
+use Rattle.model.specs.Fraction.{whole}
+pub mod Laws
+
+-- The most assets of a pool whose bounds are at most one part in 100,000 apart.
+unfoldable pub largestPool : ℕ
+largestPool = 64
+
+-- The most assets that a working row has places for.
+unfoldable pub workingAssets : ℕ
+workingAssets = 64
+
+-- A pool of at most so many assets; default probability and correlation in basis points.
+pub record InRange (most n p ρ : ℕ) : Type 0 where
+  pub assets : n ≤ most
+  pub probability : p ≤ whole
+  pub correlation : ρ ≤ whole
+
+-- A tranche from A to B with recovery R, in basis points.
+pub record TrancheInRange (R A B : ℕ) : Type 0 where
+  pub recovery : R ≤ whole
+  pub upper : B ≤ whole
+  pub lower : A < B
