@@ -14,13 +14,13 @@ unfoldable pub precision : ℕ
 precision = 2 ^ 31
 
 -- x is at most y / (1 − n / 2^31).
-pub record Le (n : ℕ) (x y : Fraction) : Type 0 where
+pub record AtMostParts (n : ℕ) (x y : Fraction) : Type 0 where
   pub cross : x .num * y .den * (precision - n) ≤ y .num * x .den * precision
 
 -- The greater of the two is within n parts of the lesser.
 abbrev pub Near : Side → ℕ → Fraction → Fraction → Type 0
-Near Low n x v = Le n v x
-Near High n x v = Le n x v
+Near Low n x v = AtMostParts n v x
+Near High n x v = AtMostParts n x v
 
 -- A kept number x of one side against the exact value v: on its side, and within n parts.
 pub record Bound (side : Side) (n : ℕ) (x : Kept) (v : Fraction) : Type 0 where
@@ -28,7 +28,8 @@ pub record Bound (side : Side) (n : ℕ) (x : Kept) (v : Fraction) : Type 0 wher
   pub order : OnSide side (value x) v
   pub near : Near side n (value x) v
 
--- Two bounds within n parts of one value are at most one part in g of it apart: with b = 2^31 and c = b − n, g × (b/c − c/b) ≤ 1.
-pub record Fine (g n : ℕ) : Type 0 where
+-- A budget of n parts is enough for one part in g: two bounds within n parts of one value are at most one part in g of it apart.
+-- With b = 2^31 and c = b − n, g × (b/c − c/b) ≤ 1.
+pub record BudgetFor (g n : ℕ) : Type 0 where
   pub positive : 0 < g
   pub small : g * (precision * precision) ≤ precision * (precision - n) + g * ((precision - n) * (precision - n))

@@ -54,10 +54,10 @@ pub record Operand (x : Kept) : Type 0 where
   pub reach : Reach 1000000000 (x .exponent)
 
 -- What is added to the leading digits, r being what was dropped below them: one on the high side where that is not zero.
-unfoldable pub step : Side → ℕ → ℕ
-step Low r = 0
-step High zero = 0
-step High (suc r) = 1
+unfoldable pub increment : Side → ℕ → ℕ
+increment Low r = 0
+increment High zero = 0
+increment High (suc r) = 1
 
 -- s × 2^e with s zero or from 2^31 to 2^32. Zero has the exponent 0, and 2^32 becomes 2^31 with the exponent one more.
 unfoldable pub carry : ℕ → ℤ → Kept
@@ -73,7 +73,7 @@ round side z =
     let n = z .num * 2 ^ a in
     let b = size (n / z .den) - 32 in
     let u = z .den * 2 ^ b in
-    carry (n / u + step side (n % u)) (minus b a)
+    carry (n / u + increment side (n % u)) (minus b a)
 
 -- On the low side x is not above z, on the high side not below it.
 abbrev pub OnSide : Side → Fraction → Fraction → Type 0

@@ -9,9 +9,9 @@ mod binary64;
 mod rounding;
 
 use rounding::add;
-use rounding::keep;
 use rounding::placed;
 use rounding::ratio;
+use rounding::round_once;
 use rounding::select;
 
 // Which bound of an exact value a number is.
@@ -51,7 +51,7 @@ impl Kept {
     pub fn from_integer(n: u64, side: Side) -> Kept
         ensures { λ r. ⌜ r ≡ ofInteger side n ⌝ }
     {
-        keep(n, 0, 0, side)
+        round_once(n, 0, 0, side)
     }
 
     // p / 10,000, any whole number of basis points.
@@ -67,7 +67,7 @@ impl Kept {
         ensures { λ r. ⌜ r ≡ roundedProduct side self other ⌝ }
     {
         let v = self.significand as u64 * other.significand as u64;
-        keep(v, 0, self.exponent + other.exponent, side)
+        round_once(v, 0, self.exponent + other.exponent, side)
     }
 
     // self + other

@@ -5,7 +5,7 @@ ghost use Prim.Native.Nat.{_*_, _≤_, _<_, _^_};
 ghost use lib.IntN.{pos, _-ℤ_};
 ghost use lib.Signed.{_≤ℤ_};
 ghost use Rattle.model.specs.Fraction.{Fraction, plus, divided};
-ghost use Rattle.kept.specs.Rounding.{Reach, Operand, scaled, value, step, carry, round};
+ghost use Rattle.kept.specs.Rounding.{Reach, Operand, scaled, value, increment, carry, round};
 ghost use Rattle.kept.specs.Rounding.Leading.{Between};
 ghost use Rattle.kept.specs.Rounding.Words.{shiftOf};
 ghost use Rattle.kept.specs.Rounding.Sums.{Gap, Addend, placeOf};
@@ -16,7 +16,7 @@ use super::Side;
 // nothing foretells whether the last digits are all zero.
 pub fn one_more(side: Side, dropped: u64) -> u64
     requires { ⌜ dropped < 2 ^ 33 ⌝ }
-    ensures { λ r. ⌜ r ≡ step side dropped ⌝ }
+    ensures { λ r. ⌜ r ≡ increment side dropped ⌝ }
 {
     match side {
         Side::Low => 0,
@@ -42,7 +42,7 @@ pub fn gap(e: i32, f: i32) -> u32
 }
 
 // The exponent that goes with a significand: 0 for zero, one more for 2^32.
-pub fn settled(significand: u64, exponent: i32) -> i32
+pub fn carried_exponent(significand: u64, exponent: i32) -> i32
     requires { ⌜ significand ≤ 2 ^ 32 ⌝ ∗ ⌜ Reach 2000000200 exponent ⌝ }
     ensures { λ r. ⌜ r ≡ carry significand exponent .exponent ⌝ }
 {
@@ -61,7 +61,7 @@ pub fn carried(significand: u64, exponent: i32) -> Kept
     let top = significand >> 32;
     Kept {
         significand: (significand >> top) as u32,
-        exponent: settled(significand, exponent),
+        exponent: carried_exponent(significand, exponent),
     }
 }
 
@@ -80,7 +80,7 @@ pub fn shifted_up(v: u64) -> u64
 
 // Rounds once the number that is v × 2^exponent where rest is zero, and lies between that and (v + 1) × 2^exponent where rest is
 // not. In the second case v has to have all 32 digits that stay.
-pub fn keep(v: u64, rest: u32, exponent: i32, side: Side) -> Kept
+pub fn round_once(v: u64, rest: u32, exponent: i32, side: Side) -> Kept
     requires { ⌜ Reach 2000000100 exponent ⌝ ∗ ⌜ (0 < rest → 2 ^ 31 ≤ v) ⌝ }
     ensures { λ r. ⌜ ((z : Fraction) → Between v rest exponent z → r ≡ round side z) ⌝ }
 {
@@ -99,7 +99,7 @@ pub fn ratio(n: u64, m: u32, exponent: i32, side: Side) -> Kept
 {
     let w = shifted_up(n);
     let d = m as u64;
-    keep(w / d, (w % d) as u32, lowered(exponent, headroom(n)), side)
+    round_once(w / d, (w % d) as u32, lowered(exponent, headroom(n)), side)
 }
 
 // Zero at the lowest exponent, so that no number stands below it, and any other number as it is.
@@ -131,5 +131,5 @@ pub fn add(x: Kept, y: Kept, side: Side) -> Kept
 {
     let d = gap(x.exponent, y.exponent);
     let v = ((x.significand as u64) << d) + y.significand as u64;
-    keep(v, 0, lowered(x.exponent, d), side)
+    round_once(v, 0, lowered(x.exponent, d), side)
 }

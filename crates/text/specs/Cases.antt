@@ -23,13 +23,9 @@ decimal-figures d = (d .at-least-one, d .at-most-five, d .all-digits)
 pub line-figures : {input : List ℕ} {n p ρ : ℕ} (line : Accepts input n p ρ) → input ≡ line .n-digits ++ 32 ∷ (line .p-digits ++ 32 ∷ (line .ρ-digits ++ 10 ∷ []))
 line-figures line = line .line
 
-some-digits : (number : ℕ) → 1 ≤ length (decimal number)
-unfolding decimal digitsBySteps
-some-digits number = rw length-append (omega arith)
-
 decimal-read : (number : ℕ) → number < 10 ^ 5 → Decimal (decimal number) number
 decimal-read number small = record {
-  at-least-one = some-digits number;
+  at-least-one = unfold decimal digitsBySteps in rw length-append (omega arith);
   at-most-five = decimal-length 4 number small;
   all-digits = decimal-writes number .all-digits;
   writes = decimal-writes number .writes;

@@ -1,15 +1,16 @@
 // The text that the program writes, into a lent buffer. A function put_.. writes from a place on and answers with the place
 // after it, a function write_.. writes a whole text at the start and answers with its length.
-ghost use Prim.Native.Nat.{suc, _≤_, _<_};
+use model::UNITS;
+ghost use Prim.Native.Nat.{suc, _+_, _*_, _≤_, _<_};
 ghost use mathlib.Core.Path.{_≡_};
 ghost use mathlib.Core.List.{[], _∷_};
 ghost use lib.ListN.{length};
 ghost use Rattle.model.specs.Number.{sum};
 ghost use Rattle.text.specs.Table.{decimal, fieldText, line, rowOf, columnText, refusedText, refusedLine, Writes};
-ghost use Rattle.text.specs.Table.Stores.{Room, Puts};
+ghost use Rattle.text.specs.Table.Stores.{HasRoom, Puts};
 
 fn put_byte(text: &mut [u8], at: usize, byte: u8) -> usize
-    requires { ⌜ Room (byte ∷ []) at (now text) ⌝ }
+    requires { ⌜ HasRoom (byte ∷ []) at (now text) ⌝ }
     ensures { λ r. ⌜ Puts (byte ∷ []) at (now (text .entry)) (now (text .exit)) r ⌝ }
 {
     text[at] = byte;
@@ -17,7 +18,7 @@ fn put_byte(text: &mut [u8], at: usize, byte: u8) -> usize
 }
 
 fn put_bytes(text: &mut [u8], at: usize, bytes: &[u8]) -> usize
-    requires { ⌜ Room (now bytes) at (now text) ⌝ }
+    requires { ⌜ HasRoom (now bytes) at (now text) ⌝ }
     ensures { λ r. ⌜ Puts (now (bytes .entry)) at (now (text .entry)) (now (text .exit)) r ⌝ }
 {
     let mut next = at;
@@ -30,7 +31,7 @@ fn put_bytes(text: &mut [u8], at: usize, bytes: &[u8]) -> usize
 }
 
 fn put_decimal(text: &mut [u8], at: usize, number: u32) -> usize
-    requires { ⌜ Room (decimal number) at (now text) ⌝ }
+    requires { ⌜ HasRoom (decimal number) at (now text) ⌝ }
     ensures { λ r. ⌜ Puts (decimal number) at (now (text .entry)) (now (text .exit)) r ⌝ }
 {
     let digit = b'0' + (number % 10) as u8;
@@ -43,7 +44,7 @@ fn put_decimal(text: &mut [u8], at: usize, number: u32) -> usize
 
 // A number and the byte that ends it.
 fn put_field(text: &mut [u8], at: usize, number: u32, end: u8) -> usize
-    requires { ⌜ Room (fieldText number end) at (now text) ⌝ }
+    requires { ⌜ HasRoom (fieldText number end) at (now text) ⌝ }
     ensures { λ r. ⌜ Puts (fieldText number end) at (now (text .entry)) (now (text .exit)) r ⌝ }
 {
     let next = put_decimal(text, at, number);
@@ -51,7 +52,7 @@ fn put_field(text: &mut [u8], at: usize, number: u32, end: u8) -> usize
 }
 
 fn put_line(text: &mut [u8], at: usize, defaults: u32, row: u32, tail: u32) -> usize
-    requires { ⌜ Room (line defaults row tail) at (now text) ⌝ }
+    requires { ⌜ HasRoom (line defaults row tail) at (now text) ⌝ }
     ensures { λ r. ⌜ Puts (line defaults row tail) at (now (text .entry)) (now (text .exit)) r ⌝ }
 {
     let second = put_field(text, at, defaults, b' ');
@@ -61,13 +62,13 @@ fn put_line(text: &mut [u8], at: usize, defaults: u32, row: u32, tail: u32) -> u
 
 // The table of a column, whose rows 0 to n add to 100,000 units. The tail goes down by each row.
 pub fn write_table(n: u32, units: &[u32], text: &mut [u8]) -> usize
-    requires { ⌜ n ≤ 64 ⌝ ∗ ⌜ n < length (now units) ⌝ }
+    requires { ⌜ n ≤ 99 ⌝ ∗ ⌜ n < length (now units) ⌝ }
     requires { ⌜ sum (suc n) (rowOf (now units)) ≡ 100000 ⌝ }
-    requires { ⌜ 1125 ≤ length (now text) ⌝ }
+    requires { ⌜ 20 + suc n * 17 ≤ length (now text) ⌝ }
     ensures { λ r. ⌜ Writes (columnText n (now (units .entry))) (now (text .entry)) (now (text .exit)) r ⌝ }
 {
     let mut next = put_bytes(text, 0, b"defaults units tail\n");
-    let mut tail: u32 = 100_000;
+    let mut tail: u32 = UNITS;
     let mut k: u32 = 0;
     while k <= n {
         let row = units[k as usize];

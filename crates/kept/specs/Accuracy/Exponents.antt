@@ -14,17 +14,17 @@ use Rattle.kept.specs.declared.Side.{Side}
 use Rattle.kept.specs.declared.Side.the-variants.{Low, High}
 use Rattle.kept.specs.Rounding.{Normal, nought, scaled, value}
 use Rattle.kept.specs.Rounding.Laws.{normal-positive}
-use Rattle.kept.specs.Accuracy.{precision, Le, Bound}
-use Rattle.kept.specs.Accuracy.Laws.{le-of-at-most, le-weaken}
+use Rattle.kept.specs.Accuracy.{precision, AtMostParts, Bound}
+use Rattle.kept.specs.Accuracy.Laws.{parts-of-at-most, parts-weaken}
 
 -- x ≤ y × 2: half of the parts.
 abbrev Twice : Fraction → Fraction → Type 0
-Twice x y = Le (2 ^ 30) x y
+Twice x y = AtMostParts (2 ^ 30) x y
 
 bound-twice : {side : Side} {b : ℕ} {x : Kept} {v : Fraction} → b * 2 ≤ precision → Bound side b x v → Twice (value x) v × Twice v (value x)
 unfolding precision
-bound-twice {side = Low} parts bound = (le-weaken (lit≤ tt) (le-of-at-most (bound .order)), le-weaken (omega arith) (bound .near))
-bound-twice {side = High} parts bound = (le-weaken (omega arith) (bound .near), le-weaken (lit≤ tt) (le-of-at-most (bound .order)))
+bound-twice {side = Low} parts bound = (parts-weaken (lit≤ tt) (parts-of-at-most (bound .order)), parts-weaken (omega arith) (bound .near))
+bound-twice {side = High} parts bound = (parts-weaken (omega arith) (bound .near), parts-weaken (lit≤ tt) (parts-of-at-most (bound .order)))
 
 -- A number between half and twice the value.
 exponent-twice : {s : ℕ} → Normal s → (e : ℤ) {v : Fraction} → Twice (scaled s e) v → Twice v (scaled s e)
@@ -36,7 +36,8 @@ exponent-twice {s} n (pos k) {v} low high m c den num =
     let below : k < suc c = lt-of-not-le (λ l. omega (arith, most, pow-mono l, mul-le-mul-right (2 ^ k) (n .least), pow-pos k)) in
     (record { le = tt }, record { le = le→leb k c (omega arith) })
 exponent-twice {s} n (negsuc k) {v} low high m c den num =
-    let some : 0 < v .num = lt-of-not-le (λ none. omega (arith, low .cross, mul-le-mul-right (2 ^ suc k) none, mul-pos (normal-positive n) (v .positive))) in
+    let some : 0 < v .num =
+    lt-of-not-le (λ none. omega (arith, low .cross, mul-le-mul-right (2 ^ suc k) none, mul-pos (normal-positive n) (v .positive))) in
     let least : 2 ^ suc k ≤ s * 2 ^ m * 2 = omega (arith, high .cross, mul-le-mul-right (2 ^ suc k) some, mul-le-mul-left s den) in
     let above : k < m + 32 =
     lt-of-not-le (λ l. omega (arith, least, pow-mono l, pow-succ' 2 k, pow-add 2 m 32, mul-lt-mul-of-pos-right (n .below) (pow-pos m))) in

@@ -1,10 +1,11 @@
 -- The f64 of a kept number: which exponents are shown, that every product on the way is exact, and the bits.
 -- Assumes nothing.
-use Prim.Native.Nat.{ℕ, zero, suc, _+_, _-_, _*_, _/_, _%_, _^_, _≤_, _<_}
+use Prim.Native.Nat.{ℕ, zero, suc, _+_, _-_, _*_, _/_, _%_, _^_, _≤_, _<_, suc-le-suc}
 use mathlib.Core.Path.{_≡_, refl, sym, ap, _∙_}
-use mathlib.Core.Bool.{Bool, true, false, true≢false}
+use mathlib.Core.Bool.{true, false, true≢false}
 use native.Mathlib.Nat.{le-trans, le-antisymm, lt-of-lt-of-le, lt-of-not-le, not-le-of-lt, zero-add, zero-mul, mul-one, one-mul}
 use native.Mathlib.Nat.{mul-pos, mul-le-mul-right, mul-div-cancel, mul-div-le, div-div-eq-div-mul, div-add-mod'}
+use native.Mathlib.Decide.{decLe}
 use native.Mathlib.Omega.{arith}
 use borrow.Author.Tests.{ltb-true, ltb-false, lt-ltb, le-ltb}
 use lib.Dec.{lit<, lit≤}
@@ -21,7 +22,7 @@ use lib.Ieee.Scale.{round-same}
 use Rattle.model.specs.Fraction.{AtMost, Less}
 use Rattle.kept.specs.declared.Kept.{Kept}
 use Rattle.kept.specs.Rounding.{Normal, IsKept, scaled, value}
-use Rattle.kept.specs.Rounding.Powers.{scaled-shift}
+use Rattle.kept.specs.Rounding.Powers.{power-below, scaled-shift}
 use Rattle.kept.specs.Rounding.Laws.{normal-positive, kept-normal}
 use Rattle.kept.specs.Binary64.{leastShown, belowShown, Shown, Doublings, ShownExponent, toBinary64, IsBinary64, scaledBy}
 
@@ -42,47 +43,26 @@ pub below-shown-no : (x : Kept) → belowShown x ≡ false → AtMost leastShown
 unfolding belowShown
 below-shown-no x test = record { cross = ltb-false _ _ test }
 
-is-below : (x : Kept) → Less (value x) leastShown → true ≡ belowShown x
-unfolding belowShown
-is-below x less = sym (lt-ltb _ _ (less .cross))
-
-is-shown : (x : Kept) → AtMost leastShown (value x) → false ≡ belowShown x
-unfolding belowShown
-is-shown x least = sym (le-ltb _ _ (least .cross))
-
 -- Below it are zero and the exponents below −831.
-zero-below : (e : ℤ) → Less (scaled 0 e) leastShown
-unfolding scaled leastShown
-zero-below e = record { cross = rw (zero-mul, one-mul (down e)) (down-pos e) }
+pub below-zero : {s : ℕ} → s ≡ 0 → (e : ℤ) → true ≡ belowShown (record { significand = s; exponent = e })
+unfolding belowShown scaled leastShown
+below-zero none e = simp (none, zero-mul, one-mul) (sym (lt-ltb 0 (down e) (down-pos e)))
 
-below-least : {s : ℕ} → Normal s → (e : ℤ) → ltZ e (negsuc 830) ≡ true → Less (scaled s e) leastShown
-unfolding scaled leastShown
-below-least n (pos k) t = absurd (true≢false (sym t))
-below-least {s} n (negsuc k) t =
-    record { cross = rw (mul-one s, one-mul (2 ^ suc k)) (under-power n 800 (suc k) (omega (arith, ltb-true 830 k t))) }
-
-from-least : {s : ℕ} → Normal s → (e : ℤ) → ltZ e (negsuc 830) ≡ false → AtMost leastShown (scaled s e)
-unfolding scaled leastShown
-from-least n (pos k) t = record { cross = mul-pos (mul-pos (normal-positive n) (pow-pos k)) (pow-pos 800) }
-from-least {s} n (negsuc k) t =
-    record { cross = rw (mul-one s, one-mul (2 ^ suc k)) (over-power n 800 (suc k) (omega (arith, ltb-false 830 k t))) }
-
-pub below-zero : (x : Kept) → x .significand ≡ 0 → true ≡ belowShown x
-below-zero x none = is-below x (rw none (zero-below (x .exponent)))
-
-pub below-exponent : (x : Kept) → Normal (x .significand) → ltZ (x .exponent) (negsuc 830) ≡ belowShown x
-below-exponent x n = by-test (ltZ (x .exponent) (negsuc 830)) refl
-  where
-    by-test : (t : Bool) → ltZ (x .exponent) (negsuc 830) ≡ t → t ≡ belowShown x
-    by-test true test = is-below x (below-least n (x .exponent) test)
-    by-test false test = is-shown x (from-least n (x .exponent) test)
+pub below-exponent : {s : ℕ} → Normal s → (e : ℤ) → ltZ e (negsuc 830) ≡ belowShown (record { significand = s; exponent = e })
+unfolding belowShown scaled leastShown
+below-exponent n (pos k) = sym (le-ltb _ _ (mul-pos (mul-pos (normal-positive n) (pow-pos k)) (pow-pos 800)))
+below-exponent {s} n (negsuc k) = rw (mul-one s, one-mul (2 ^ suc k)) (elim (decLe k 830) [
+  | yes le ↦ rw (le-ltb 830 k le) (sym (le-ltb _ _ (over-power n 800 (suc k) (omega arith))))
+  | no le ↦ rw (lt-ltb 830 k (lt-of-not-le le)) (sym (lt-ltb _ _ (under-power n 800 (suc k) (omega arith))))
+])
 
 -- So what is shown is not zero, and its exponent is from −831 to 192.
 pub shown-normal : {x : Kept} → IsKept x → AtMost leastShown (value x) → Normal (x .significand)
-shown-normal {x} kept l = kept-normal kept (λ e. not-le-of-lt (zero-below (x .exponent) .cross) ((rw e at l) .cross))
+unfolding belowShown
+shown-normal {x} kept l = kept-normal kept (λ none. true≢false (below-zero none (x .exponent) ∙ le-ltb _ _ (l .cross)))
 
 pub shown-exponent : {x : Kept} → Shown x → ShownExponent (x .exponent)
-unfolding scaled
+unfolding scaled leastShown belowShown
 shown-exponent {x} shown = go (x .exponent) (shown .least) (shown .below)
   where
     n : Normal (x .significand)
@@ -93,13 +73,8 @@ shown-exponent {x} shown = go (x .exponent) (shown .least) (shown .below)
         let below : k < 193 = lt-of-not-le (λ g. not-le-of-lt (simp mul-one at (u .cross)) (over-power n k 224 (omega arith))) in
         record { n = k + 831; doublings = record { is = refl; below = omega arith } }
     go (negsuc k) l u =
-        let least : k < 831 = lt-of-not-le (λ g. not-le-of-lt (below-least n (negsuc k) (lt-ltb 830 k g) .cross) (l .cross)) in
+        let least : k < 831 = suc-le-suc (ltb-false 830 k (below-exponent n (negsuc k) ∙ le-ltb _ _ (l .cross))) in
         record { n = 831 - suc k; doublings = record { is = rw (le-ltb 831 (suc k)); below = omega arith } }
-
--- s × 2^e = s × 2^k / 2^a, for k = e + a
-whole-power : (s : ℕ) (e : ℤ) (a k : ℕ) → pos k ≡ e +ℤ pos a → s * up e * 2 ^ a ≡ s * 2 ^ k * down e
-unfolding scaled
-whole-power s e a k is = omega (arith, scaled-shift s e a is .cross)
 
 -- s × 2^k times 2^−1074, the least value of binary64 above zero.
 unfoldable pub multiple : ℕ → ℕ → Float
@@ -131,11 +106,8 @@ product-exact {s} n k l a b y v small e =
     mul-at binary64 x y (s * 2 ^ k) (2 ^ 1074) (2 ^ a) (2 ^ b) p q (pow-pos 1074) (pow-pos b) w v
     ∙ round-same binary64 false _ _ (s * 2 ^ l) (2 ^ 1074) (mul-pos (pow-pos 1074) (pow-pos b)) (pow-pos 1074) (cross (2 ^ 1074))
   where
-    powers : 2 ^ k * 2 ^ a ≡ 2 ^ l * 2 ^ b
-    powers = rw (← pow-add 2 k a, ← pow-add 2 l b, e)
-
     cross : (c : ℕ) → s * 2 ^ k * 2 ^ a * c ≡ s * 2 ^ l * (c * 2 ^ b)
-    cross c = omega (arith, ap (λ z. s * c * z) powers)
+    cross c = let powers : 2 ^ k * 2 ^ a ≡ 2 ^ l * 2 ^ b = rw (← pow-add 2 k a, ← pow-add 2 l b, e) in omega (arith, ap (λ z. s * c * z) powers)
 
 scaled-exact : {s : ℕ} → Normal s → (digit k l j : ℕ) → digit < 2 → k ≤ 2066 → k + digit * j ≡ l
     → scaledBy (multiple s k) digit (fin false 1 (pos j)) ≡ multiple s l
@@ -156,29 +128,27 @@ pub undoubled : {s n : ℕ} → Normal s → n < 1024 → Doubled s n 1024 (Ieee
 undoubled {s} {n} normal l = record {
   normal = normal;
   below = l;
-  is =
-      rw (cast-exact s)
-      (product-exact normal 1074 (243 + n / 1024 * 1024) 0 831 (fin false 1 (negsuc 830)) (refl, refl) (lit≤ tt) (omega arith));
+  is = rw (cast-exact s) (product-exact normal 1074 (243 + n / 1024 * 1024) 0 831 (fin false 1 (negsuc 830)) (refl, refl) (lit≤ tt) (omega arith));
 }
 
 -- One digit more.
 pub doubled : {s n : ℕ} {x r : Float} (j : ℕ) → Doubled s n (j * 2) x → r ≡ scaledBy x (n / j % 2) (fin false 1 (pos j)) → Doubled s n j r
-doubled {s} {n} j d e = record { normal = d .normal; below = d .below; is = e ∙ rw (d .is) one-more }
-  where
-    k : ℕ
-    k = n / (j * 2) * (j * 2)
-
-    digits : 243 + k + n / j % 2 * j ≡ 243 + n / j * j
-    digits = rw (← div-div-eq-div-mul n j 2) (omega (arith, ap (λ z. z * j) (div-add-mod' (n / j) 2)))
-
-    one-more : scaledBy (multiple s (243 + k)) (n / j % 2) (fin false 1 (pos j)) ≡ multiple s (243 + n / j * j)
-    one-more = scaled-exact (d .normal) (n / j % 2) (243 + k) _ j (omega arith) (omega (arith, d .below, mul-div-le n (j * 2))) digits
+doubled {n} j d e =
+    let k = 243 + n / (j * 2) * (j * 2) in
+    let digits : k + n / j % 2 * j ≡ 243 + n / j * j =
+    rw (← div-div-eq-div-mul n j 2) (omega (arith, ap (λ z. z * j) (div-add-mod' (n / j) 2))) in
+    record {
+      normal = d .normal;
+      below = d .below;
+      is = e ∙ rw (d .is) (scaled-exact (d .normal) (n / j % 2) k _ j (omega arith) (omega (arith, d .below, mul-div-le n (j * 2))) digits);
+    }
 
 -- A number from 2^z to below 2^(z + 1) has z + 1 binary digits.
 size-is : (v z : ℕ) → 2 ^ z ≤ v → v < 2 ^ suc z → size v ≡ suc z
-size-is v z l h = le-antisymm (size-le v (suc z) h) (lt-of-not-le (λ g. not-le-of-lt (lt-of-lt-of-le (size-lt v) (pow-mono g)) l))
+size-is v z l h = le-antisymm (size-le v (suc z) h) (power-below z (size v) l (size-lt v))
 
--- The bits of s × 2^(j + 21) times the least value. That number has j + 53 binary digits; 53 stay, and the leading one adds one to the exponent field.
+-- The bits of s × 2^(j + 21) times the least value. That number has j + 53 binary digits; 53 stay, and the leading one adds one to
+-- the exponent field.
 bits-of : {s : ℕ} → Normal s → (j k : ℕ) (x : Float) → k ≡ j + 21 → HasValue x false (s * 2 ^ k) (2 ^ 1074)
     → toBits binary64 x ≡ j * 2 ^ 52 + s * 2 ^ 21
 unfolding toBits
@@ -191,16 +161,15 @@ bits-of {s} n j k (fin false m e) h v =
     let kept : w / 2 ^ j ≡ s * 2 ^ 21 = ap (λ z. z / 2 ^ j) (rw (h, pow-add 2 j 21) (omega arith)) ∙ shl-shr (s * 2 ^ 21) j in
     rw (whole, digits, dropped, kept, zero-add)
 
--- The value of x as a multiple of the least value of binary64.
-shown-power : (s : ℕ) {e : ℤ} {n : ℕ} → Doublings e n → s * up e * 2 ^ 1074 ≡ s * 2 ^ (n + 243) * down e
-shown-power s {e} {n} h = whole-power s e 1074 (n + 243) (ap (λ z. z +ℤ pos 243) (h .is) ∙ +ℤ-assoc e (pos 831) (pos 243))
+-- The value of x as a multiple of the least value of binary64, where c is 243.
+shown-power : (s : ℕ) {e : ℤ} {n : ℕ} (c : ℕ) → Doublings e n → s * up e * 2 ^ (831 + c) ≡ s * 2 ^ (n + c) * down e
+unfolding scaled
+shown-power s {e} {n} c h =
+    omega (arith, scaled-shift s e {f = pos (n + c)} (831 + c) (ap (λ z. z +ℤ pos c) (h .is) ∙ +ℤ-assoc e (pos 831) (pos c)) .cross)
 
 binary64-multiple : (x : Kept) {n : ℕ} → Doublings (x .exponent) n → toBinary64 x ≡ multiple (x .significand) (n + 243)
 unfolding toBinary64 scaled multiple
-binary64-multiple x {n} h =
-    let s = x .significand in
-    let e = x .exponent in
-    round-same binary64 false (s * up e) (down e) (s * 2 ^ (n + 243)) (2 ^ 1074) (down-pos e) (pow-pos 1074) (shown-power s h)
+binary64-multiple x h = round-same binary64 false _ _ _ _ (down-pos (x .exponent)) (pow-pos 1074) (shown-power (x .significand) 243 h)
 
 -- A number that is shown has its value as an f64.
 pub shown-binary64 : {x : Kept} → Shown x → IsBinary64 x (toBinary64 x)
@@ -216,7 +185,7 @@ shown-binary64 {x} shown =
     let bits = bits-of normal (n + 222) (n + 243) (toBinary64 x) (omega arith) value in
     record {
       is = refl;
-      exact = nothing-lost normal (n + 243) (s * up e) (down e) (omega (arith, h .below)) (down-pos e) (shown-power s h);
+      exact = nothing-lost normal (n + 243) (s * up e) (down e) (omega (arith, h .below)) (down-pos e) (shown-power s 243 h);
       sign = omega arith;
       exponent-field = ap pos (omega arith) ∙ ap (λ z. z +ℤ pos 223) (h .is) ∙ +ℤ-assoc e (pos 831) (pos 223);
       fraction-field = omega arith;

@@ -15,8 +15,8 @@ pub between-exact : {v : ℕ} {e : ℤ} {z : Fraction} → Same (scaled v e) z �
 between-exact {v} {e} same = record {
   from = at-most-of-same same;
   to = at-most-less-trans (at-most-of-same (same-sym same)) (scaled-less e (omega arith));
-  none = λ _. at-most-of-same (same-sym same);
-  some = λ none. absurd (omega arith);
+  no-rest = λ _. at-most-of-same (same-sym same);
+  with-rest = λ none. absurd (omega arith);
 }
 
 -- ---- the product of two words

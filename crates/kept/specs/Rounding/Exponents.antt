@@ -1,25 +1,25 @@
 -- Sums and differences of exponents within their reach.
 -- Assumes nothing.
-use Prim.Native.Nat.{ℕ, zero, suc, _+_, _-_, _≤_, _<_, _^_, suc-le-suc}
-use mathlib.Core.Path.{_≡_, refl}
-use mathlib.Core.Bool.{Bool, true, false, cond}
-use native.Mathlib.Nat.{le-of-lt}
+use Prim.Native.Nat.{ℕ, zero, suc, _+_, _≤_, _<_, _^_, suc-le-suc}
+use mathlib.Core.Path.{_≡_, refl, sym}
+use mathlib.Core.Bool.{true, true≢false}
+use native.Mathlib.Decide.{decLe}
+use native.Mathlib.Nat.{le-of-lt, lt-of-not-le}
 use native.Mathlib.Omega.{arith}
-use lib.Dec.{T, ltb, leb→le, le→leb, ltb→lt}
-use lib.Signed.{mag, _≤ℤ_, ltZ, leZ, ltZ-no, nonNeg}
+use lib.Dec.{T, leb→le, le→leb}
+use lib.Signed.{mag, _≤ℤ_, ltZ, nonNeg}
 use lib.IntN.{ℤ, pos, negsuc, negℤ, natAbs, subℕ, _+ℤ_, _-ℤ_}
-use borrow.Author.Tests.{ltb-true, ltb-false, le-ltb}
+use borrow.Author.Tests.{ltb-true, lt-ltb, le-ltb}
 use mir.Syntax.{w32}
 use mir.Val.{SFits, toZ, ofZ}
 use mir.Facts.{toZ-ofZ}
 use Rattle.kept.specs.Rounding.{Reach}
 
 difference : (a b : ℕ) → natAbs (subℕ a b) ≤ a + b
-difference a b = by-order (ltb a b) refl
-  where
-    by-order : (t : Bool) → ltb a b ≡ t → natAbs (cond t (negsuc (b - suc a)) (pos (a - b))) ≤ a + b
-    by-order true test = omega (arith, ltb-true a b test)
-    by-order false test = omega (arith, ltb-false a b test)
+difference a b = elim (decLe b a) [
+  | yes le ↦ rw (le-ltb a b le) (omega arith)
+  | no le ↦ rw (lt-ltb a b (lt-of-not-le le)) (omega arith)
+]
 
 total : (e f : ℤ) → natAbs (e +ℤ f) ≤ natAbs e + natAbs f
 total (pos a) (pos b) = omega arith
@@ -58,17 +58,11 @@ result-back e fits = toZ-ofZ (record { sfits = fits })
 
 -- ---- two exponents in order
 
-less : (e f : ℤ) → T (ltZ e f) → T (leZ e f)
-less (pos a) (pos b) t = le→leb a b (le-of-lt (ltb→lt a b t))
-less (pos a) (negsuc b) t = t
-less (negsuc a) (pos b) t = t
-less (negsuc a) (negsuc b) t = le→leb b a (le-of-lt (ltb→lt b a t))
-
 pub order-yes : {e f : ℤ} → ltZ e f ≡ true → e ≤ℤ f
-order-yes {e} {f} test = record { le = less e f (rw test tt) }
-
-pub order-no : {e f : ℤ} → ltZ e f ≡ false → f ≤ℤ e
-order-no test = ltZ-no (rw test tt)
+order-yes {e = pos a} {f = pos b} test = record { le = le→leb a b (le-of-lt (ltb-true a b test)) }
+order-yes {e = pos a} {f = negsuc b} test = absurd (true≢false (sym test))
+order-yes {e = negsuc a} {f = pos b} test = record { le = tt }
+order-yes {e = negsuc a} {f = negsuc b} test = record { le = le→leb b a (le-of-lt (ltb-true b a test)) }
 
 above-zero : (a b : ℕ) → b ≤ a → T (nonNeg (subℕ a b))
 above-zero a b le = rw (le-ltb a b le) tt

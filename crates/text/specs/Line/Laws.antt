@@ -2,7 +2,7 @@
 -- Assumes nothing.
 use Prim.Native.Nat.{ℕ, _<_}
 use Prim.Native.Char.{code}
-use mathlib.Core.Path.{_≡_, refl, subst, sym}
+use mathlib.Core.Path.{_≡_, refl}
 use mathlib.Core.List.{List, [], _∷_, _++_}
 use native.Mathlib.Omega.{arith}
 use lib.Dec.{lit<}
@@ -23,19 +23,15 @@ abbrev pub ends : List ℕ
 ends = code " " ∷ code " " ∷ code "\n" ∷ []
 
 field-decimal : {end value : ℕ} {text rest : List ℕ} (field : Begins end text value rest) → Decimal (field .digits) value
-field-decimal field = record {
-  at-least-one = omega (arith, field .at-least-one);
-  at-most-five = omega (arith, field .at-most-five);
-  all-digits = field .all-digits;
-  writes = field .writes;
-}
+field-decimal field =
+    record { at-least-one = omega arith; at-most-five = omega arith; all-digits = field .all-digits; writes = field .writes }
 
 decimal-field : {end value : ℕ} {digits rest : List ℕ} → Decimal digits value → Begins end (digits ++ end ∷ rest) value rest
 decimal-field {digits = digits} decimal = record {
   digits = digits;
   parts = refl;
-  at-least-one = omega (arith, decimal .at-least-one);
-  at-most-five = omega (arith, decimal .at-most-five);
+  at-least-one = omega arith;
+  at-most-five = omega arith;
   all-digits = decimal .all-digits;
   writes = decimal .writes;
 }
@@ -57,9 +53,7 @@ accepted (more a (more b (more c none))) = record {
 -- A field at the start of such a text has the first number, and the other fields follow it.
 pub after : {end number : ℕ} {ends numbers text rest : List ℕ} {first : ℕ} → end < code "0" → Begins end text number rest
     → Fields (end ∷ ends) (first ∷ numbers) text → (number ≡ first) × Fields ends numbers rest
-after {ends = ends} {numbers} low begins (more begins′ others) =
-    let same = one-field low begins begins′ in
-    (same .0, subst (λ t. Fields ends numbers t) (sym (same .1)) others)
+after low begins (more begins′ others) = let (same, rests) = one-field low _ begins begins′ in (same, rw rests others)
 
 pub no-field-first : {end : ℕ} {ends numbers text : List ℕ} → ((number : ℕ) (rest : List ℕ) → Begins end text number rest → ⊥)
     → Fields (end ∷ ends) numbers text → ⊥
@@ -70,13 +64,12 @@ nothing-after none = refl
 
 -- An input is the line of three numbers at most.
 pub one-line : {input : List ℕ} {n p ρ n′ p′ ρ′ : ℕ} → Accepts input n p ρ → Accepts input n′ p′ ρ′ → (n ≡ n′) × (p ≡ p′) × (ρ ≡ ρ′)
-one-line {input} {n} {p} {ρ} {n′} {p′} {ρ′} line line′ = go (fields line)
-  where
-    go : Fields ends (n ∷ p ∷ ρ ∷ []) input → (n ≡ n′) × (p ≡ p′) × (ρ ≡ ρ′)
-    go (more a (more b (more c none))) =
-        let first = after (lit< tt) a (fields line′) in
-        let second = after (lit< tt) b (first .1) in
-        (first .0, second .0, after (lit< tt) c (second .1) .0)
+one-line line line′ = elim (fields line) [
+  | more a (more b (more c none)) ↦
+      let first = after (lit< tt) a (fields line′) in
+      let second = after (lit< tt) b (first .1) in
+      (first .0, second .0, after (lit< tt) c (second .1) .0)
+]
 
 -- An input has one answer.
 pub one-answer : (input : List ℕ) (a b : Line) → ReadsLine input a → ReadsLine input b → a ≡ b

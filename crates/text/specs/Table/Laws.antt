@@ -17,11 +17,10 @@ enough : (steps steps′ number : ℕ) → number < steps → number < steps′ 
 unfolding digitsBySteps
 enough zero steps′ number few few′ = absurd (omega arith)
 enough (suc steps) zero number few few′ = absurd (omega arith)
-enough (suc steps) (suc steps′) number few few′ =
-    elim (decLt number 10) [
-      | yes small ↦ rw (lt-ltb number 10 small)
-      | no large ↦ rw (enough steps steps′ (number / 10) (omega arith) (omega arith))
-    ]
+enough (suc steps) (suc steps′) number few few′ = elim (decLt number 10) [
+  | yes small ↦ rw (lt-ltb number 10 small)
+  | no large ↦ rw (enough steps steps′ (number / 10) (omega arith) (omega arith))
+]
 
 pub decimal-digit : (number : ℕ) → number < 10 → decimal number ≡ digit (number % 10) ∷ []
 unfolding decimal digitsBySteps
@@ -34,13 +33,12 @@ decimal-more number large = rw (le-ltb number 10 large, enough number (suc (numb
 -- A number below 10^(d + 1) has at most d + 1 digits.
 pub decimal-length : (d number : ℕ) → number < 10 ^ suc d → length (decimal number) ≤ suc d
 decimal-length zero number small = rw (decimal-digit number small) (omega arith)
-decimal-length (suc d) number small =
-    elim (decLt number 10) [
-      | yes little ↦ rw (decimal-digit number little) (omega arith)
-      | no large ↦
-          let tenth : number / 10 < 10 ^ suc d = omega (arith, pow-suc 10 (suc d)) in
-          rw (decimal-more number (omega arith), length-append) (omega (arith, decimal-length d (number / 10) tenth))
-    ]
+decimal-length (suc d) number small = elim (decLt number 10) [
+  | yes little ↦ rw (decimal-digit number little) (omega arith)
+  | no large ↦
+      let tenth : number / 10 < 10 ^ suc d = omega (arith, pow-suc 10 (suc d)) in
+      rw (decimal-more number (omega arith), length-append) (omega (arith, decimal-length d (number / 10) tenth))
+]
 
 pub field-length : (d number end : ℕ) → number < 10 ^ suc d → length (fieldText number end) ≤ suc (suc d)
 unfolding fieldText
@@ -72,17 +70,10 @@ decimal-writes number = by-steps (suc number) number (omega arith)
   where
     by-steps : (steps number : ℕ) → number < steps → Written (digitsBySteps steps number) number
     by-steps zero number few = absurd (omega arith)
-    by-steps (suc steps) number few =
-        elim (decLt number 10) [
-          | yes small ↦ rw (lt-ltb number 10 small) (written-last number (record { all-digits = none; writes = omega arith }))
-          | no large ↦ rw (le-ltb number 10 (omega arith)) (written-last number (by-steps steps (number / 10) (omega arith)))
-        ]
-
-lines-same : (m : ℕ) {rows rows′ tails tails′ : ℕ → ℕ} → ((k : ℕ) → k < m → rows k ≡ rows′ k) → ((k : ℕ) → k < m → tails k ≡ tails′ k)
-    → lines m rows tails ≡ lines m rows′ tails′
-unfolding lines
-lines-same zero row tail = refl
-lines-same (suc m) row tail = rw (lines-same m (λ k l. row k (omega arith)) (λ k l. tail k (omega arith)), row m (omega arith), tail m (omega arith))
+    by-steps (suc steps) number few = elim (decLt number 10) [
+      | yes small ↦ rw (lt-ltb number 10 small) (written-last number (record { all-digits = none; writes = omega arith }))
+      | no large ↦ rw (le-ltb number 10 (omega arith)) (written-last number (by-steps steps (number / 10) (omega arith)))
+    ]
 
 module _ (n : ℕ) (units : List ℕ) (rows tails : ℕ → ℕ) (same : (k : ℕ) → k ≤ n → rowOf units k ≡ rows k)
     (difference : (k : ℕ) → k ≤ n → rowOf units k + tails (suc k) ≡ tails k) (past : tails (suc n) ≡ 0) where
@@ -91,7 +82,12 @@ module _ (n : ℕ) (units : List ℕ) (rows tails : ℕ → ℕ) (same : (k : �
   tail-sum (suc left) k end =
       omega (arith, between-first n (rowOf units) {k = k} (omega arith), tail-sum left (suc k) (omega arith), difference k (omega arith))
 
+  lines-same : (m : ℕ) → m ≤ suc n → lines m (rowOf units) (tailOf n units) ≡ lines m rows tails
+  unfolding lines
+  lines-same zero most = refl
+  lines-same (suc m) most = rw (lines-same m (omega arith), same m (omega arith), tail-sum (suc n - m) m (omega arith))
+
   -- The tails in the text of a column are those whose differences the rows are.
   pub column-text : columnText n units ≡ tableText n rows tails
   unfolding columnText tableText
-  column-text = rw (lines-same (suc n) (λ k l. same k (omega arith)) (λ k l. tail-sum (suc n - k) k (omega arith)))
+  column-text = rw (lines-same (suc n) (omega arith))

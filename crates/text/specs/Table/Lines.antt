@@ -1,6 +1,6 @@
 -- The table written line by line, with the tail that goes down by each row.
 -- Assumes nothing.
-use Prim.Native.Nat.{ℕ, suc, _+_, _*_, _-_, _≤_, _<_, _^_}
+use Prim.Native.Nat.{ℕ, suc, _+_, _*_, _-_, _≤_, _<_}
 use Prim.Native.Char.{code}
 use mathlib.Core.Path.{_≡_, sym, _∙_}
 use mathlib.Core.List.{List}
@@ -13,13 +13,7 @@ use Rattle.model.specs.Number.Laws.{sum-cong, between-first}
 use Rattle.text.specs.Ascii.{ascii}
 use Rattle.text.specs.Table.{line, lines, header, tableText, rowOf, tailOf, columnText, Writes}
 use Rattle.text.specs.Table.Laws.{field-length}
-use Rattle.text.specs.Table.Stores.{Room, Puts, puts-none, puts-both, puts-length, written}
-
--- A line is at most 17 bytes long.
-line-length : (k row tail : ℕ) → k < 10 ^ 2 → row < 10 ^ 6 → tail < 10 ^ 6 → length (line k row tail) ≤ 17
-unfolding line
-line-length k row tail few little small =
-    simp length-append (omega (arith, field-length 1 k (code " ") few, field-length 5 row (code " ") little, field-length 5 tail (code "\n") small))
+use Rattle.text.specs.Table.Stores.{HasRoom, Puts, puts-none, puts-both, puts-length, written}
 
 between-all : (n : ℕ) (f : ℕ → ℕ) → sumBetween 0 n f ≡ sum (suc n) f
 unfolding sumBetween
@@ -47,13 +41,19 @@ module _ {n start next tail k : ℕ} {units before between : List ℕ} (so-far :
   pub row-at-most : rowOf units k ≤ tail
   row-at-most = omega (arith, so-far .tail-at, between-first n (rowOf units) few)
 
-  line-short : n ≤ 64 → length (line k (rowOf units k) tail) ≤ 17
-  line-short most = line-length k (rowOf units k) tail (omega arith) (omega (arith, row-at-most, so-far .little)) (omega (arith, so-far .little))
+  -- A line is at most 17 bytes long.
+  line-short : n ≤ 99 → length (line k (rowOf units k) tail) ≤ 17
+  unfolding line
+  line-short most =
+      let first = field-length 1 k (code " ") (omega arith) in
+      let second = field-length 5 (rowOf units k) (code " ") (omega (arith, row-at-most, so-far .little)) in
+      let third = field-length 5 tail (code "\n") (omega (arith, so-far .little)) in
+      simp length-append (omega arith)
 
-  pub line-room : n ≤ 64 → start + 1105 ≤ length before → Room (line k (rowOf units k) tail) next between
+  pub line-room : n ≤ 99 → start + suc n * 17 ≤ length before → HasRoom (line k (rowOf units k) tail) next between
   line-room most room = record { room = omega (arith, line-short most, so-far .short, so-far .puts .place, puts-length (so-far .puts)) }
 
-  pub lines-more : {after : List ℕ} {next′ : ℕ} → n ≤ 64 → Puts (line k (rowOf units k) tail) next between after next′
+  pub lines-more : {after : List ℕ} {next′ : ℕ} → n ≤ 99 → Puts (line k (rowOf units k) tail) next between after next′
       → Lines n units before start after next′ (tail - rowOf units k) (k + 1)
   unfolding lines
   lines-more most put = rw add-one record {
@@ -66,7 +66,7 @@ module _ {n start next tail k : ℕ} {units before between : List ℕ} (so-far :
 
 -- All lines after the header.
 pub table-written : {n start next tail k : ℕ} {units before between after : List ℕ} → Puts header 0 before between start → Lines n units between start after next tail k
-    → n < k → n ≤ 64 → 1125 ≤ length before → Writes (columnText n units) before after next
+    → n < k → n ≤ 99 → 20 + suc n * 17 ≤ length before → Writes (columnText n units) before after next
 unfolding columnText tableText header ascii
 table-written {n} {k = k} {units} {before} headed all past most room =
     let last : k ≡ suc n = omega (arith, all .within) in

@@ -10,7 +10,7 @@ use lib.Seq.{sets, sets-eq, length-sets}
 use Rattle.text.specs.Table.{Writes}
 
 -- There is room for bytes from a place on.
-pub record Room (bytes : List ℕ) (at : ℕ) (text : List ℕ) : Type 0 where
+pub record HasRoom (bytes : List ℕ) (at : ℕ) (text : List ℕ) : Type 0 where
   pub room : at + length bytes ≤ length text
 
 -- The bytes stand in the buffer from a place on, the others as before, and the answer is the place after them.
@@ -37,14 +37,14 @@ puts-both {first} {second} {before} {at = at} a b = record {
   content = rw (sets-append first second before at, ← a .content, ← a .place) (b .content);
 }
 
-pub room-first : {first text : List ℕ} {at : ℕ} (second : List ℕ) → Room (first ++ second) at text → Room first at text
+pub room-first : {first text : List ℕ} {at : ℕ} (second : List ℕ) → HasRoom (first ++ second) at text → HasRoom first at text
 room-first {first} second room = record { room = omega (arith, length-append first second, room .room) }
 
-pub room-second : {first second before between : List ℕ} {at middle : ℕ} → Room (first ++ second) at before → Puts first at before between middle
-    → Room second middle between
+pub room-second : {first second before between : List ℕ} {at middle : ℕ} → HasRoom (first ++ second) at before → Puts first at before between middle
+    → HasRoom second middle between
 room-second {first} {second} room put = record { room = omega (arith, length-append first second, room .room, put .place, puts-length put) }
 
-pub written : {bytes before after : List ℕ} {next : ℕ} → Room bytes 0 before → Puts bytes 0 before after next → Writes bytes before after next
+pub written : {bytes before after : List ℕ} {next : ℕ} → HasRoom bytes 0 before → Puts bytes 0 before after next → Writes bytes before after next
 written {bytes} {before} room put = record {
   count = put .place ∙ zero-add _;
   content = put .content ∙ sets-eq bytes before 0 (room .room) ∙ rw zero-add refl;

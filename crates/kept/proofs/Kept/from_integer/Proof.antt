@@ -1,7 +1,6 @@
 -- `Kept::from_integer` meets its contract.
 -- Assumes nothing.
 use borrow.Author.Needs.{needs}
-use Rattle.model.specs.Fraction.{integer}
 use Rattle.kept.specs.Rounding.{ofInteger}
 use Rattle.kept.specs.Rounding.Arithmetic.{between-exact, integer-scaled}
 use Rattle.kept.proofs.Kept.from_integer.Statement.{statement}
@@ -9,7 +8,7 @@ use Rattle.kept.proofs.Kept.from_integer.Tie as tie
 
 returns : tie.Need-returns
 unfolding ofInteger
-returns c = c .keep .ensures (integer (c .before .args .n)) (between-exact (integer-scaled (c .before .args .n)))
+returns c = c .round-once .ensures _ (between-exact (integer-scaled (c .before .args .n)))
 
 pub from-integer-spec : {M : Type 1} → statement M
 from-integer-spec = tie.close (tie.spec (λ c κs. search needs) returns)

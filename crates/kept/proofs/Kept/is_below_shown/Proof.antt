@@ -11,16 +11,12 @@ use Rattle.kept.specs.Binary64.Laws.{below-zero, below-exponent}
 use Rattle.kept.proofs.Kept.is_below_shown.Statement.{statement}
 use Rattle.kept.proofs.Kept.is_below_shown.Tie as tie
 
-returns : tie.Need-returns
-returns c =
-    let x = c .before .before .args .self in
-    eq-eqb (x .significand) 0 (c .if1 .taken) ∙ below-zero x (c .if1 .taken)
-
 returns-2 : tie.Need-returns-2
 returns-2 c =
     let start = c .before .before .before .before in
     let fit : SFits w32 (start .args .self .exponent) = search needs in
-    rw (toZ-ofZ fit) (below-exponent (start .args .self) (kept-normal (start .pre) (c .before .before .if1 .left)))
+    rw (toZ-ofZ fit) (below-exponent (kept-normal (start .pre) (c .before .before .if1 .left)) (start .args .self .exponent))
 
 pub is-below-shown-spec : {M : Type 1} → statement M
-is-below-shown-spec = tie.close (tie.spec returns returns-2)
+is-below-shown-spec =
+    tie.close (tie.spec (λ c. eq-eqb _ 0 (c .if1 .taken) ∙ below-zero (c .if1 .taken) (c .before .before .args .self .exponent)) returns-2)

@@ -7,9 +7,8 @@ use lib.Dec.{lit<, lit≤}
 use lib.IntN.{_+ℤ_}
 use mir.Syntax.{w32}
 use mir.Val.{toZ, ofZ}
-use Rattle.model.specs.Fraction.{times}
 use Rattle.model.specs.Fraction.Laws.{same-sym}
-use Rattle.kept.specs.Rounding.{Reach, value, roundedProduct}
+use Rattle.kept.specs.Rounding.{Reach, roundedProduct}
 use Rattle.kept.specs.Rounding.Exponents.{reach-plus, reach-weaken, reach-fits, reach-back}
 use Rattle.kept.specs.Rounding.Powers.{scaled-times}
 use Rattle.kept.specs.Rounding.Arithmetic.{between-exact, product-word}
@@ -21,28 +20,28 @@ reach : (c : tie.Start) → Reach 2000000000 (c .args .self .exponent +ℤ c .ar
 reach c = reach-plus (c .pre .0 .reach) (c .pre .1 .reach)
 
 exponent : (c : tie.Start)
-    → toZ w32 (ofZ w32 (c .args .self .exponent)) +ℤ toZ w32 (ofZ w32 (c .args .other .exponent)) ≡ c .args .self .exponent +ℤ c .args .other .exponent
+    → toZ w32 (ofZ w32 (c .args .self .exponent)) +ℤ toZ w32 (ofZ w32 (c .args .other .exponent))
+    ≡ c .args .self .exponent +ℤ c .args .other .exponent
 exponent c = rw (reach-back (lit< tt) (c .pre .0 .reach), reach-back (lit< tt) (c .pre .1 .reach))
+
+abbrev start : tie.After-struct-told2 → tie.Start
+start c = c .before .before .before .before .before .before
 
 mul-v : tie.Need-mul-v
 mul-v c = record { fits = product-word (kept-below (c .before .before .pre .0 .kept)) (kept-below (c .before .before .pre .1 .kept)) }
 
-add-keep : tie.Need-add-keep
-add-keep c = rw (exponent (c .before .before .before .before .before .before)) (reach-fits (lit< tt) (reach (c .before .before .before .before .before .before)))
+add-round-once : tie.Need-add-round-once
+add-round-once c = rw (exponent (start c)) (reach-fits (lit< tt) (reach (start c)))
 
-keep-requires : tie.Need-keep-requires
-keep-requires c κs =
-    let start = c .before .before .before .before .before .before in
-    (rw (exponent start, reach-back (lit< tt) (reach start)) (reach-weaken (lit≤ tt) (reach start)), λ none. absurd (omega arith))
+round-once-requires : tie.Need-round-once-requires
+round-once-requires c κs =
+    (rw (exponent (start c), reach-back (lit< tt) (reach (start c))) (reach-weaken (lit≤ tt) (reach (start c))), λ none. absurd (omega arith))
 
 returns : tie.Need-returns
 unfolding roundedProduct
 returns c =
-    let start = c .before .before .before .before .before .before .before in
-    let x = start .args .self in
-    let y = start .args .other in
-    (rw (exponent start, reach-back (lit< tt) (reach start)) at (c .keep .ensures)) (times (value x) (value y))
-    (between-exact (same-sym (scaled-times (x .significand) (y .significand) (x .exponent) (y .exponent))))
+    let begin = start (c .before) in
+    (rw (exponent begin, reach-back (lit< tt) (reach begin)) at (c .round-once .ensures)) _ (between-exact (same-sym (scaled-times _ _ _ _)))
 
 pub product-spec : {M : Type 1} → statement M
-product-spec = tie.close (tie.spec (λ c. search needs) (λ c. search needs) mul-v add-keep keep-requires returns)
+product-spec = tie.close (tie.spec (λ c. search needs) (λ c. search needs) mul-v add-round-once round-once-requires returns)

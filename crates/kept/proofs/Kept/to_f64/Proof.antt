@@ -13,9 +13,6 @@ use Rattle.kept.proofs.Kept.to_f64.Tie as tie
 exponent-fits : (c : tie.After-struct-told) → SFits w32 (c .before .args .self .exponent)
 exponent-fits c = search needs
 
-doublings-requires : tie.Need-doublings-requires
-doublings-requires c κs = rw (toZ-ofZ (exponent-fits c)) (shown-exponent (c .before .pre))
-
 -- c0 is what is known after the count of doublings, c1 to c9 and c what is known after each product in turn.
 returns : tie.Need-returns
 unfolding ofBits
@@ -48,16 +45,7 @@ pub to-f64-spec : {M : Type 1} → statement M
 to-f64-spec =
     tie.close
     (tie.spec
-    doublings-requires
-    (λ c. search needs)
-    (λ c κs. tt)
-    (λ c κs. tt)
-    (λ c κs. tt)
-    (λ c κs. tt)
-    (λ c κs. tt)
-    (λ c κs. tt)
-    (λ c κs. tt)
-    (λ c κs. tt)
-    (λ c κs. tt)
+    (λ c κs. rw (toZ-ofZ (exponent-fits c)) (shown-exponent (c .before .pre)))
+    (λ c. search needs) (λ c κs. tt) (λ c κs. tt) (λ c κs. tt) (λ c κs. tt) (λ c κs. tt) (λ c κs. tt) (λ c κs. tt) (λ c κs. tt) (λ c κs. tt)
     (λ c κs. tt)
     returns)

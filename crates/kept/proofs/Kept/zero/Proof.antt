@@ -5,9 +5,5 @@ use Rattle.kept.specs.Rounding.{nought}
 use Rattle.kept.proofs.Kept.zero.Statement.{statement}
 use Rattle.kept.proofs.Kept.zero.Tie as tie
 
-returns : tie.Need-returns
-unfolding nought
-returns c = refl
-
 pub zero-spec : {M : Type 1} → statement M
-zero-spec = tie.close (tie.spec returns)
+zero-spec = tie.close (tie.spec (λ c. unfold nought in refl))

@@ -1,6 +1,6 @@
 -- `binary64::doublings` meets its contract: the sum is a natural number below 1024, so it fits an i32 and a u32.
 -- Assumes nothing.
-use mathlib.Core.Path.{_≡_, sym, ap, _∙_, subst}
+use mathlib.Core.Path.{_≡_, sym, ap, subst, _∙_}
 use native.Mathlib.Omega.{arith}
 use lib.IntN.{pos, _+ℤ_}
 use mir.Facts.{toZ-ofZ}
@@ -15,14 +15,10 @@ total c = ap (λ z. z +ℤ pos 831) (toZ-ofZ (c .fits .exponent)) ∙ sym (c .pr
 total-fits : (c : tie.Start) → SFits w32 (pos (c .pre .n))
 total-fits c = record { sfits = omega arith }
 
-add-result : tie.Need-add-result
-add-result c = subst (SFits w32) (sym (total c)) (total-fits c)
-
-cast-result : tie.Need-cast-result
-cast-result c = rw (total c, toZ-ofZ (total-fits c)) (tt, record { fits = omega arith })
-
-returns : tie.Need-returns
-returns c = rw (total c, toZ-ofZ (total-fits c)) (c .pre .doublings)
-
 pub doublings-spec : {M : Type 1} → statement M
-doublings-spec = tie.close (tie.spec add-result cast-result returns)
+doublings-spec =
+    tie.close
+    (tie.spec
+    (λ c. subst (SFits w32) (sym (total c)) (total-fits c))
+    (λ c. rw (total c, toZ-ofZ (total-fits c)) (tt, record { fits = omega arith }))
+    (λ c. rw (total c, toZ-ofZ (total-fits c)) (c .pre .doublings)))

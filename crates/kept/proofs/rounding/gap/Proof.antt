@@ -1,7 +1,6 @@
 -- `gap` meets its contract.
 -- Assumes nothing.
-use mathlib.Core.Path.{_≡_, refl, sym}
-use native.Mathlib.Omega.{arith}
+use mathlib.Core.Path.{_≡_, sym}
 use lib.Dec.{T, lit<}
 use lib.IntN.{pos, natAbs, _+ℤ_, _-ℤ_, +ℤ-comm, -ℤ-+ℤ-cancel}
 use lib.Signed.{nonNeg, pos-natAbs}
@@ -9,6 +8,7 @@ use mir.Syntax.{w32}
 use mir.Val.{SFits, toZ, ofZ}
 use mir.Facts.{toZ-ofZ, fits-natAbs}
 use Rattle.kept.specs.Rounding.Exponents.{reach-minus, reach-fits, ordered-difference}
+use Rattle.kept.specs.Rounding.Sums.{gap-near, gap-far}
 use Rattle.kept.proofs.rounding.gap.Statement.{statement}
 use Rattle.kept.proofs.rounding.gap.Tie as tie
 
@@ -29,34 +29,11 @@ apart c =
     let f = c .args .f in
     rw (pos-natAbs (e -ℤ f) (whole c), +ℤ-comm f (e -ℤ f)) (sym (-ℤ-+ℤ-cancel e f))
 
-sub-d : tie.Need-sub-d
-sub-d c = rw (toZ-ofZ (c .fits .e), toZ-ofZ (c .fits .f)) (fits c)
-
-cast-d : tie.Need-cast-d
-cast-d c = rw (difference c) (whole c, fits-natAbs tt (fits c))
-
-returns : tie.Need-returns
-returns c =
-    let start = c .before in
-    let below = rw (difference start) at (c .if1 .taken) in
-    rw (difference start)
-    (record {
-      distance = natAbs (start .args .e -ℤ start .args .f);
-      apart = apart start;
-      near = λ _. refl;
-      far = λ far. absurd (omega arith);
-    })
-
-returns-2 : tie.Need-returns-2
-returns-2 c =
-    let start = c .before in
-    let past = rw (difference start) at (c .if1 .left) in
-    record {
-      distance = natAbs (start .args .e -ℤ start .args .f);
-      apart = apart start;
-      near = λ near. absurd (omega arith);
-      far = λ _. refl;
-    }
-
 pub gap-spec : {M : Type 1} → statement M
-gap-spec = tie.close (tie.spec sub-d cast-d returns returns-2)
+gap-spec =
+    tie.close
+    (tie.spec
+    (λ c. rw (toZ-ofZ (c .fits .e), toZ-ofZ (c .fits .f)) (fits c))
+    (λ c. rw (difference c) (whole c, fits-natAbs tt (fits c)))
+    (λ c. rw (difference (c .before)) (gap-near (apart (c .before)) (rw (difference (c .before)) at (c .if1 .taken))))
+    (λ c. gap-far (apart (c .before)) (rw (difference (c .before)) at (c .if1 .left))))

@@ -5,9 +5,5 @@ use Rattle.kept.specs.Rounding.Words.{shiftOf}
 use Rattle.kept.proofs.rounding.headroom.Statement.{statement}
 use Rattle.kept.proofs.rounding.headroom.Tie as tie
 
-returns : tie.Need-returns
-unfolding shiftOf
-returns c = refl
-
 pub headroom-spec : {M : Type 1} → statement M
-headroom-spec = tie.close (tie.spec returns)
+headroom-spec = tie.close (tie.spec (λ c. unfold shiftOf in refl))

@@ -8,7 +8,7 @@ use borrow.Fn.Kinds.{In}
 use borrow.Fn.PlainCycle.{Measures, is, falls, and}
 use Rattle.text.specs.Table.{digit, decimal}
 use Rattle.text.specs.Table.Laws.{decimal-digit, decimal-more}
-use Rattle.text.specs.Table.Stores.{Room, room-first, room-second, puts-both}
+use Rattle.text.specs.Table.Stores.{HasRoom, room-first, room-second, puts-both}
 use Rattle.text.proofs.table.put_decimal.Reads as put-decimal
 use Rattle.text.proofs.table.put_decimal.Kinds as put-decimal-kinds
 use Rattle.text.proofs.table.+put_decimal.Lts-put_decimal as lts
@@ -26,38 +26,10 @@ module _ (t : ℕ) where
   abbrev below : In 1 put-decimal-kinds.ps
   below = and 1 put-decimal-kinds.ps (falls 1 put-decimal-kinds.ps _<_ μ t) put-decimal.Pre
 
-  cast-digit : lts.Need-cast-digit (put-byte.Asked, put-byte.Learnt, below, put-decimal.Post) at put-decimal.Post
-  cast-digit c = search needs
-
-  add-digit : lts.Need-add-digit (put-byte.Asked, put-byte.Learnt, below, put-decimal.Post) at put-decimal.Post
-  add-digit c = search needs
-
-  put-byte-requires : lts.Need-put-byte-requires (put-byte.Asked, put-byte.Learnt, below, put-decimal.Post) at put-decimal.Post
-  put-byte-requires c κs =
-      let start = c .before .before .before in
-      rw (decimal-digit (start .args .number) (c .before .if1 .taken)) at (start .pre .1)
-
-  same-length : lts.Need-same-length (put-byte.Asked, put-byte.Learnt, below, put-decimal.Post) at put-decimal.Post
-  same-length c = search needs
-
-  returns : lts.Need-returns (put-byte.Asked, put-byte.Learnt, below, put-decimal.Post) at put-decimal.Post
-  returns c =
-      let start = c .before .before .before .before .before .before in
-      rw (decimal-digit (start .args .number) (c .before .before .before .before .if1 .taken)) (c .before .before .put-byte .ensures)
-
   -- The room, where the number has more than one digit.
   room : (c : lts.Else1 (put-byte.Asked, put-byte.Learnt, below, put-decimal.Post) at put-decimal.Post) → let args = c .before .before .args in
-      Room (decimal (args .number / 10) ++ digit (args .number % 10) ∷ []) (args .at) (args .text .now)
+      HasRoom (decimal (args .number / 10) ++ digit (args .number % 10) ∷ []) (args .at) (args .text .now)
   room c = rw (decimal-more (c .before .before .args .number) (c .if1 .left)) at (c .before .before .pre .1)
-
-  put-decimal-requires : lts.Need-put-decimal-requires (put-byte.Asked, put-byte.Learnt, below, put-decimal.Post) at put-decimal.Post
-  put-decimal-requires c κs = (omega (arith, c .before .before .before .pre .0), room-first (digit (c .before .before .before .args .number % 10) ∷ []) (room (c .before)))
-
-  put-byte-requires-2 : lts.Need-put-byte-requires-2 (put-byte.Asked, put-byte.Learnt, below, put-decimal.Post) at put-decimal.Post
-  put-byte-requires-2 c κs = room-second (room (c .before .before .before .before .before)) (c .before .before .before .put-decimal .ensures)
-
-  same-length-2 : lts.Need-same-length-2 (put-byte.Asked, put-byte.Learnt, below, put-decimal.Post) at put-decimal.Post
-  same-length-2 c = search needs
 
   returns-2 : lts.Need-returns-2 (put-byte.Asked, put-byte.Learnt, below, put-decimal.Post) at put-decimal.Post
   returns-2 c =
@@ -69,12 +41,12 @@ pub +put-decimal-spec : {M : Type 1} → statement M
 +put-decimal-spec = close μ λ t. lts.spec (put-byte.Asked, put-byte.Learnt, below t, put-decimal.Post)
     (at t)
     put-decimal.Post
-    (cast-digit t)
-    (add-digit t)
-    (put-byte-requires t)
-    (same-length t)
-    (returns t)
-    (put-decimal-requires t)
-    (put-byte-requires-2 t)
-    (same-length-2 t)
+    (λ c. search needs)
+    (λ c. search needs)
+    (λ c κs. rw (decimal-digit (c .before .before .before .args .number) (c .before .if1 .taken)) at (c .before .before .before .pre .1))
+    (λ c. search needs)
+    (λ c. rw (decimal-digit _ (c .before .before .before .before .if1 .taken)) (c .before .before .put-byte .ensures))
+    (λ c κs. (omega (arith, c .before .before .before .pre .0), room-first _ (room t (c .before))))
+    (λ c κs. room-second (room t (c .before .before .before .before .before)) (c .before .before .before .put-decimal .ensures))
+    (λ c. search needs)
     (returns-2 t)

@@ -16,9 +16,6 @@ Inv-loop text₀ at bytes next₀ i₀ text next i = (i ≤ length bytes) × Put
 abbrev μ-loop : tie.MeasureT-loop
 μ-loop text₀ at bytes next₀ i₀ text next i = length bytes - i
 
-loop-holds : tie.Need-loop-holds Inv-loop μ-loop
-loop-holds c = (omega arith, puts-none _ _)
-
 put-byte-requires : tie.Need-put-byte-requires Inv-loop μ-loop
 put-byte-requires c κs =
     let at-loop = c .before .before .before in
@@ -34,23 +31,13 @@ loop-again c =
     let bytes = at-loop .before .before .before .args .bytes .now in
     (omega arith, rw (add-one, take-suc bytes (at-loop .loop .i) 0 (in-loop .loop-test .taken)) (puts-both (at-loop .loop .inv .1) (c .before .before .put-byte .ensures)))
 
-same-length : tie.Need-same-length Inv-loop μ-loop
-same-length c = puts-length (c .before .loop .inv .1)
-
-returns : tie.Need-returns Inv-loop μ-loop
-returns c = rw (take-all (c .before .loop .i) (c .before .before .before .before .args .bytes .now) (c .loop-test .left)) at (c .before .loop .inv .1)
-
 pub put-bytes-spec : {M : Type 1} → statement M
 put-bytes-spec =
     tie.close
-    (tie.spec
-    Inv-loop
-    μ-loop
-    loop-holds
-    (λ c. search needs)
+    (tie.spec Inv-loop μ-loop
+    (λ c. (omega arith, puts-none _ _)) (λ c. search needs)
     put-byte-requires
-    (λ c. search needs)
-    (λ c. search needs)
+    (λ c. search needs) (λ c. search needs)
     loop-again
-    same-length
-    returns)
+    (λ c. puts-length (c .before .loop .inv .1))
+    (λ c. rw (take-all (c .before .loop .i) (c .before .before .before .before .args .bytes .now) (c .loop-test .left)) at (c .before .loop .inv .1)))

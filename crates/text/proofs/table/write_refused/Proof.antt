@@ -6,11 +6,11 @@ use native.Mathlib.Omega.{arith}
 use Rattle.text.specs.Ascii.{ascii}
 use Rattle.text.specs.Table.{refusedText}
 use Rattle.text.specs.Table.Laws.{field-length}
-use Rattle.text.specs.Table.Stores.{Room, room-second, puts-both, written}
+use Rattle.text.specs.Table.Stores.{HasRoom, room-second, puts-both, written}
 use Rattle.text.proofs.table.write_refused.Statement.{statement}
 use Rattle.text.proofs.table.write_refused.Tie as tie
 
-room : (c : tie.Start) → Room (refusedText (c .args .number)) 0 (c .args .text .now)
+room : (c : tie.Start) → HasRoom (refusedText (c .args .number)) 0 (c .args .text .now)
 unfolding refusedText ascii
 room c = record { room = omega (arith, field-length 1 (c .args .number) (code "\n") (omega arith)) }
 
@@ -25,6 +25,4 @@ returns c =
     (puts-both (c .before .before .before .before .before .before .put-bytes .ensures) (c .before .before .put-field .ensures))
 
 pub write-refused-spec : {M : Type 1} → statement M
-write-refused-spec =
-    tie.close
-    (tie.spec (λ c. search needs) (λ c κs. search needs) put-field-requires (λ c. search needs) returns)
+write-refused-spec = tie.close (tie.spec (λ c. search needs) (λ c κs. search needs) put-field-requires (λ c. search needs) returns)

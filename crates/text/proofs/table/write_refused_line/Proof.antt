@@ -13,5 +13,4 @@ unfolding refusedLine ascii
 returns c = written (record { room = omega arith }) (c .before .before .put-bytes .ensures)
 
 pub write-refused-line-spec : {M : Type 1} → statement M
-write-refused-line-spec =
-    tie.close (tie.spec (λ c. search needs) (λ c κs. search needs) (λ c. search needs) returns)
+write-refused-line-spec = tie.close (tie.spec (λ c. search needs) (λ c κs. search needs) (λ c. search needs) returns)
