@@ -6,14 +6,14 @@ use mathlib.Core.Bool.{cond, not, _||_}
 use mathlib.Core.List.{List, [], _∷_}
 use lib.Dec.{eqb, ltb}
 use Rattle.model.specs.Fraction.{whole}
-use Rattle.steps.specs.Pool.{largestPool}
+use Rattle.steps.specs.Inputs.{largestPool}
 use Rattle.grounds.specs.Grounds.{Ground, storePlaces, someShorter, assetsGround, probabilityGround, correlationGround, recoveryGround, upperGround}
 use Rattle.grounds.specs.Grounds.{attachmentsGround, storeGround, columnGround, rowGround, poolGrounds, trancheGrounds}
 use Rattle.grounds.specs.Grounds.{fillGrounds, rowGrounds, columnGrounds, lossGrounds}
 
 -- Each ground in figures, for every input.
 pub figures : (n p ρ R A B k units : ℕ) (lengths : List ℕ)
-    → (assetsGround n ≡ record { number = 1; applies = eqb n 0 || ltb 64 n })
+    → (assetsGround largestPool n ≡ record { number = 1; applies = eqb n 0 || ltb 64 n })
     × (probabilityGround p ≡ record { number = 2; applies = ltb 10000 p })
     × (correlationGround ρ ≡ record { number = 3; applies = ltb 10000 ρ })
     × (recoveryGround R ≡ record { number = 4; applies = ltb 10000 R })
@@ -30,13 +30,13 @@ abbrev numbers : List Ground → List ℕ
 numbers [] = []
 numbers (g ∷ gs) = g .number ∷ numbers gs
 
-pub orders : (n p ρ R A B k units : ℕ) (lengths : List ℕ)
-    → (numbers (fillGrounds n p ρ lengths) ≡ 1 ∷ 2 ∷ 3 ∷ 7 ∷ [])
-    × (numbers (rowGrounds n k units) ≡ 1 ∷ 7 ∷ 9 ∷ [])
-    × (numbers (columnGrounds n p ρ lengths units) ≡ 1 ∷ 2 ∷ 3 ∷ 7 ∷ 8 ∷ [])
-    × (numbers (lossGrounds n p ρ R A B lengths) ≡ 1 ∷ 2 ∷ 3 ∷ 4 ∷ 5 ∷ 6 ∷ 7 ∷ [])
+pub orders : (most n p ρ R A B k units : ℕ) (lengths : List ℕ)
+    → (numbers (fillGrounds most n p ρ lengths) ≡ 1 ∷ 2 ∷ 3 ∷ 7 ∷ [])
+    × (numbers (rowGrounds most n k units) ≡ 1 ∷ 7 ∷ 9 ∷ [])
+    × (numbers (columnGrounds most n p ρ lengths units) ≡ 1 ∷ 2 ∷ 3 ∷ 7 ∷ 8 ∷ [])
+    × (numbers (lossGrounds most n p ρ R A B lengths) ≡ 1 ∷ 2 ∷ 3 ∷ 4 ∷ 5 ∷ 6 ∷ 7 ∷ [])
 unfolding fillGrounds rowGrounds columnGrounds lossGrounds poolGrounds trancheGrounds assetsGround probabilityGround correlationGround recoveryGround upperGround attachmentsGround storeGround columnGround rowGround
-orders n p ρ R A B k units lengths = (refl, refl, refl, refl)
+orders most n p ρ R A B k units lengths = (refl, refl, refl, refl)
 
 -- The numbers of the grounds that apply, of all nine.
 abbrev applying : List Ground → List ℕ
@@ -45,7 +45,7 @@ applying (g ∷ gs) = cond (g .applies) (g .number ∷ applying gs) (applying gs
 
 abbrev refusing : (n p ρ R A B : ℕ) (lengths : List ℕ) (units k : ℕ) → List ℕ
 refusing n p ρ R A B lengths units k =
-    applying (assetsGround n ∷ probabilityGround p ∷ correlationGround ρ ∷ recoveryGround R ∷ upperGround B ∷ attachmentsGround A B
+    applying (assetsGround largestPool n ∷ probabilityGround p ∷ correlationGround ρ ∷ recoveryGround R ∷ upperGround B ∷ attachmentsGround A B
     ∷ storeGround n lengths ∷ columnGround n units ∷ rowGround n k ∷ [])
 
 -- Four slices, the last with a length of its own.

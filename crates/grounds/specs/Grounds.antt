@@ -1,12 +1,13 @@
 -- The grounds on which a call says no, and what an accepted call's inputs are. Numbers and order are the scope paper's.
 -- Assumes nothing.
-use Prim.Native.Nat.{ℕ, suc, _+_, _*_, _/_, _≤_, _<_}
+use Prim.Native.Nat.{ℕ, zero, suc, _+_, _*_, _/_, _≤_, _<_}
 use mathlib.Core.Bool.{Bool, false, cond, not, _||_}
 use mathlib.Core.List.{List, [], _∷_, _++_}
 use lib.Dec.{eqb, ltb}
 use Rattle.model.specs.Fraction.{whole}
 use Rattle.model.specs.Number.{triangle}
-use Rattle.steps.specs.Pool.{largestPool}
+use Rattle.steps.specs.Inputs.{InRange, TrancheInRange}
+use Rattle.grounds.specs.declared.Lengths.{Lengths}
 pub mod Laws
 
 -- A ground, the scope paper's term for a reason to say no: its number, and whether it applies.
@@ -14,14 +15,23 @@ pub record Ground : Type 0 where
   pub number : ℕ
   pub applies : Bool
 
+-- The first of two numbers that is not 0.
+unfoldable pub firstOf : ℕ → ℕ → ℕ
+firstOf zero b = b
+firstOf (suc a) b = suc a
+
 -- The number of the first ground that applies, or 0 where none does.
 unfoldable pub firstGround : List Ground → ℕ
 firstGround [] = 0
-firstGround (g ∷ gs) = cond (g .applies) (g .number) (firstGround gs)
+firstGround (g ∷ gs) = firstOf (cond (g .applies) (g .number) 0) (firstGround gs)
 
 -- The places of a store of rows 0 to n.
 unfoldable pub storePlaces : ℕ → ℕ
 storePlaces n = (n + 1) * (n + 2) / 2
+
+-- The lengths of the four slices of a store, in the order in which the calls take them.
+unfoldable pub fourLengths : Lengths → List ℕ
+fourLengths l = l .«low_significands» ∷ l .«high_significands» ∷ l .«low_exponents» ∷ l .«high_exponents» ∷ []
 
 -- Some length is below m.
 unfoldable pub someShorter : ℕ → List ℕ → Bool
@@ -30,9 +40,9 @@ someShorter m (l ∷ ls) = ltb l m || someShorter m ls
 
 -- ---- each ground
 
--- No asset, or more than the largest pool has.
-unfoldable pub assetsGround : (n : ℕ) → Ground
-assetsGround n = record { number = 1; applies = eqb n 0 || ltb largestPool n }
+-- No asset, or more than the call's ceiling.
+unfoldable pub assetsGround : (most n : ℕ) → Ground
+assetsGround most n = record { number = 1; applies = eqb n 0 || ltb most n }
 
 -- More than certainty.
 unfoldable pub probabilityGround : (p : ℕ) → Ground
@@ -66,66 +76,55 @@ columnGround n units = record { number = 8; applies = ltb units (n + 1) }
 unfoldable pub rowGround : (n k : ℕ) → Ground
 rowGround n k = record { number = 9; applies = ltb n k }
 
--- ---- the grounds of each call, in order
+-- ---- the grounds of each call, in order; `most` is its ceiling on the assets
 
 -- 1 to 3, on the pool.
-unfoldable pub poolGrounds : (n p ρ : ℕ) → List Ground
-poolGrounds n p ρ = assetsGround n ∷ probabilityGround p ∷ correlationGround ρ ∷ []
+unfoldable pub poolGrounds : (most n p ρ : ℕ) → List Ground
+poolGrounds most n p ρ = assetsGround most n ∷ probabilityGround p ∷ correlationGround ρ ∷ []
 
 -- 4 to 6, on the tranche.
 unfoldable pub trancheGrounds : (R A B : ℕ) → List Ground
 trancheGrounds R A B = recoveryGround R ∷ upperGround B ∷ attachmentsGround A B ∷ []
 
 -- 1 to 3 and 7.
-unfoldable pub fillGrounds : (n p ρ : ℕ) (lengths : List ℕ) → List Ground
-fillGrounds n p ρ lengths = poolGrounds n p ρ ++ (storeGround n lengths ∷ [])
+unfoldable pub fillGrounds : (most n p ρ : ℕ) (lengths : List ℕ) → List Ground
+fillGrounds most n p ρ lengths = poolGrounds most n p ρ ++ (storeGround n lengths ∷ [])
 
 -- 1, 7 and 9.
-unfoldable pub rowGrounds : (n k length : ℕ) → List Ground
-rowGrounds n k length = assetsGround n ∷ storeGround n (length ∷ []) ∷ rowGround n k ∷ []
+unfoldable pub rowGrounds : (most n k length : ℕ) → List Ground
+rowGrounds most n k length = assetsGround most n ∷ storeGround n (length ∷ []) ∷ rowGround n k ∷ []
 
 -- 1 to 3, 7 and 8.
-unfoldable pub columnGrounds : (n p ρ : ℕ) (lengths : List ℕ) (units : ℕ) → List Ground
-columnGrounds n p ρ lengths units = fillGrounds n p ρ lengths ++ (columnGround n units ∷ [])
+unfoldable pub columnGrounds : (most n p ρ : ℕ) (lengths : List ℕ) (units : ℕ) → List Ground
+columnGrounds most n p ρ lengths units = fillGrounds most n p ρ lengths ++ (columnGround n units ∷ [])
 
 -- 1 to 7.
-unfoldable pub lossGrounds : (n p ρ R A B : ℕ) (lengths : List ℕ) → List Ground
-lossGrounds n p ρ R A B lengths = poolGrounds n p ρ ++ (trancheGrounds R A B ++ (storeGround n lengths ∷ []))
+unfoldable pub lossGrounds : (most n p ρ R A B : ℕ) (lengths : List ℕ) → List Ground
+lossGrounds most n p ρ R A B lengths = poolGrounds most n p ρ ++ (trancheGrounds R A B ++ (storeGround n lengths ∷ []))
 
 -- ---- what the inputs of an accepted call are
 
-pub record AssetsAccepted (n : ℕ) : Type 0 where
-  pub some : 0 < n
-  pub most : n ≤ largestPool
-
-pub record PoolAccepted (n p ρ : ℕ) : Type 0 where
-  pub assets : AssetsAccepted n
-  pub probability : p ≤ whole
-  pub correlation : ρ ≤ whole
-
-pub record TrancheAccepted (R A B : ℕ) : Type 0 where
-  pub recovery : R ≤ whole
-  pub upper : B ≤ whole
-  pub attachments : A < B
+pub record PoolAccepted (most n p ρ : ℕ) : Type 0 where
+  pub not-empty : 0 < n
+  pub range : InRange most n p ρ
 
 -- Each length is m or more.
 abbrev pub EachAtLeast : ℕ → List ℕ → Type 0
 EachAtLeast m [] = Unit {0}
 EachAtLeast m (l ∷ ls) = (m ≤ l) × EachAtLeast m ls
 
-pub record FillAccepted (n p ρ : ℕ) (lengths : List ℕ) : Type 0 where
-  pub pool : PoolAccepted n p ρ
+pub record FillAccepted (most n p ρ : ℕ) (lengths : List ℕ) : Type 0 where
+  pub pool : PoolAccepted most n p ρ
   pub store : EachAtLeast (triangle (suc n)) lengths
 
 pub record RowAccepted (n k length : ℕ) : Type 0 where
-  pub assets : AssetsAccepted n
   pub store : triangle (suc n) ≤ length
   pub row : k ≤ n
 
-pub record ColumnAccepted (n p ρ : ℕ) (lengths : List ℕ) (units : ℕ) : Type 0 where
-  pub fill : FillAccepted n p ρ lengths
+pub record ColumnAccepted (most n p ρ : ℕ) (lengths : List ℕ) (units : ℕ) : Type 0 where
+  pub fill : FillAccepted most n p ρ lengths
   pub column : n < units
 
-pub record LossAccepted (n p ρ R A B : ℕ) (lengths : List ℕ) : Type 0 where
-  pub fill : FillAccepted n p ρ lengths
-  pub tranche : TrancheAccepted R A B
+pub record LossAccepted (most n p ρ R A B : ℕ) (lengths : List ℕ) : Type 0 where
+  pub fill : FillAccepted most n p ρ lengths
+  pub tranche : TrancheInRange R A B

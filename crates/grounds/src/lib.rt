@@ -1,156 +1,124 @@
 // The grounds on which a call says no. Each function gives the number of the first that applies to the numbers it is given,
-// or 0 where none does. Slices are given by their lengths: a and b are those of the significands, c and d of the exponents.
+// or 0 where none does. Ground 1 has the call's ceiling on the assets, and slices are given by their lengths.
 use model::WHOLE;
-use steps::LARGEST_POOL;
 ghost use mathlib.Core.Path.{_≡_};
+ghost use mathlib.Core.Bool.{cond};
 ghost use mathlib.Core.List.{[], _∷_};
-ghost use Prim.Native.Nat.{_≤_};
-ghost use Rattle.steps.specs.Pool.{largestPool};
-ghost use Rattle.grounds.specs.Grounds.{assetsGround, storeGround, firstGround, storePlaces};
+ghost use Rattle.model.specs.Number.{triangle};
+ghost use Rattle.grounds.specs.Grounds.{firstOf, firstGround, storePlaces, fourLengths, assetsGround, storeGround};
 ghost use Rattle.grounds.specs.Grounds.{poolGrounds, trancheGrounds, fillGrounds, rowGrounds, columnGrounds, lossGrounds};
 
-fn assets_refusal(n: u32) -> u32
-    ensures { λ r. ⌜ r ≡ firstGround (assetsGround n ∷ []) ⌝ }
-{
-    if n == 0 {
-        return 1;
-    }
-    if n > LARGEST_POOL {
-        return 1;
-    }
-    0
+// The lengths of the four slices of a store.
+pub struct Lengths {
+    pub low_significands: usize,
+    pub high_significands: usize,
+    pub low_exponents: usize,
+    pub high_exponents: usize,
 }
 
-fn pool_refusal(n: u32, p: u32, rho: u32) -> u32
-    ensures { λ r. ⌜ r ≡ firstGround (poolGrounds n p rho) ⌝ }
+// The first of two refusals.
+fn first(a: u32, b: u32) -> u32
+    ensures { λ r. ⌜ r ≡ firstOf a b ⌝ }
 {
-    let assets = assets_refusal(n);
-    if assets != 0 {
-        return assets;
-    }
-    if p > WHOLE {
-        return 2;
-    }
-    if rho > WHOLE {
-        return 3;
-    }
-    0
+    if a == 0 { b } else { a }
+}
+
+// The number of one ground.
+fn ground(number: u32, applies: bool) -> u32
+    ensures { λ r. ⌜ r ≡ cond applies number 0 ⌝ }
+{
+    if applies { number } else { 0 }
+}
+
+fn assets_refusal(most: u32, n: u32) -> u32
+    ensures { λ r. ⌜ r ≡ firstGround (assetsGround most n ∷ []) ⌝ }
+{
+    ground(1, (n == 0) | (n > most))
+}
+
+fn pool_refusal(most: u32, n: u32, p: u32, rho: u32) -> u32
+    ensures { λ r. ⌜ r ≡ firstGround (poolGrounds most n p rho) ⌝ }
+{
+    first(
+        assets_refusal(most, n),
+        first(ground(2, p > WHOLE), ground(3, rho > WHOLE)),
+    )
 }
 
 fn tranche_refusal(recovery: u32, lower: u32, upper: u32) -> u32
     ensures { λ r. ⌜ r ≡ firstGround (trancheGrounds recovery lower upper) ⌝ }
 {
-    if recovery > WHOLE {
-        return 4;
-    }
-    if upper > WHOLE {
-        return 5;
-    }
-    if lower >= upper {
-        return 6;
-    }
-    0
+    first(
+        ground(4, recovery > WHOLE),
+        first(ground(5, upper > WHOLE), ground(6, !(lower < upper))),
+    )
 }
 
+// Where row k of a store starts: the places of the rows before it. The product fits a word for every k.
+pub fn row_start(k: u32) -> usize
+    ensures { λ r. ⌜ r ≡ triangle k ⌝ }
+{
+    let k = k as usize;
+    k * (k + 1) / 2
+}
+
+// The places of rows 0 to n.
 fn store_places(n: u32) -> usize
-    requires { ⌜ n ≤ largestPool ⌝ }
     ensures { λ r. ⌜ r ≡ storePlaces n ⌝ }
 {
-    let n = n as usize;
-    (n + 1) * (n + 2) / 2
+    row_start(n) + n as usize + 1
 }
 
-fn store_refusal(n: u32, a: usize, b: usize, c: usize, d: usize) -> u32
-    requires { ⌜ n ≤ largestPool ⌝ }
-    ensures { λ r. ⌜ r ≡ firstGround (storeGround n (a ∷ b ∷ c ∷ d ∷ []) ∷ []) ⌝ }
+fn store_refusal(n: u32, lengths: Lengths) -> u32
+    ensures { λ r. ⌜ r ≡ firstGround (storeGround n (fourLengths lengths) ∷ []) ⌝ }
 {
     let places = store_places(n);
-    if a < places {
-        return 7;
-    }
-    if b < places {
-        return 7;
-    }
-    if c < places {
-        return 7;
-    }
-    if d < places {
-        return 7;
-    }
-    0
+    let exponents = (lengths.low_exponents < places) | (lengths.high_exponents < places);
+    let high = (lengths.high_significands < places) | exponents;
+    ground(7, (lengths.low_significands < places) | high)
 }
 
-pub fn fill_refusal(n: u32, p: u32, rho: u32, a: usize, b: usize, c: usize, d: usize) -> u32
-    ensures { λ r. ⌜ r ≡ firstGround (fillGrounds n p rho (a ∷ b ∷ c ∷ d ∷ [])) ⌝ }
+pub fn fill_refusal(most: u32, n: u32, p: u32, rho: u32, lengths: Lengths) -> u32
+    ensures { λ r. ⌜ r ≡ firstGround (fillGrounds most n p rho (fourLengths lengths)) ⌝ }
 {
-    let pool = pool_refusal(n, p, rho);
-    if pool != 0 {
-        return pool;
-    }
-    store_refusal(n, a, b, c, d)
+    first(pool_refusal(most, n, p, rho), store_refusal(n, lengths))
 }
 
-pub fn row_refusal(n: u32, k: u32, length: usize) -> u32
-    ensures { λ r. ⌜ r ≡ firstGround (rowGrounds n k length) ⌝ }
+pub fn row_refusal(most: u32, n: u32, k: u32, length: usize) -> u32
+    ensures { λ r. ⌜ r ≡ firstGround (rowGrounds most n k length) ⌝ }
 {
-    let assets = assets_refusal(n);
-    if assets != 0 {
-        return assets;
-    }
-    let places = store_places(n);
-    if length < places {
-        return 7;
-    }
-    if k > n {
-        return 9;
-    }
-    0
+    first(
+        assets_refusal(most, n),
+        first(ground(7, length < store_places(n)), ground(9, k > n)),
+    )
 }
 
-pub fn column_refusal(
-    n: u32,
-    p: u32,
-    rho: u32,
-    a: usize,
-    b: usize,
-    c: usize,
-    d: usize,
-    units: usize,
-) -> u32
-    ensures { λ r. ⌜ r ≡ firstGround (columnGrounds n p rho (a ∷ b ∷ c ∷ d ∷ []) units) ⌝ }
+pub fn column_refusal(most: u32, n: u32, p: u32, rho: u32, lengths: Lengths, units: usize) -> u32
+    ensures { λ r. ⌜ r ≡ firstGround (columnGrounds most n p rho (fourLengths lengths) units) ⌝ }
 {
-    let fill = fill_refusal(n, p, rho, a, b, c, d);
-    if fill != 0 {
-        return fill;
-    }
-    let rows = n as usize + 1;
-    if units < rows {
-        return 8;
-    }
-    0
+    first(
+        fill_refusal(most, n, p, rho, lengths),
+        ground(8, units < n as usize + 1),
+    )
 }
 
 pub fn loss_refusal(
+    most: u32,
     n: u32,
     p: u32,
     rho: u32,
     recovery: u32,
     lower: u32,
     upper: u32,
-    a: usize,
-    b: usize,
-    c: usize,
-    d: usize,
+    lengths: Lengths,
 ) -> u32
-    ensures { λ r. ⌜ r ≡ firstGround (lossGrounds n p rho recovery lower upper (a ∷ b ∷ c ∷ d ∷ [])) ⌝ }
+    ensures { λ r. ⌜ r ≡ firstGround (lossGrounds most n p rho recovery lower upper (fourLengths lengths)) ⌝ }
 {
-    let pool = pool_refusal(n, p, rho);
-    if pool != 0 {
-        return pool;
-    }
-    let tranche = tranche_refusal(recovery, lower, upper);
-    if tranche != 0 {
-        return tranche;
-    }
-    store_refusal(n, a, b, c, d)
+    first(
+        pool_refusal(most, n, p, rho),
+        first(
+            tranche_refusal(recovery, lower, upper),
+            store_refusal(n, lengths),
+        ),
+    )
 }

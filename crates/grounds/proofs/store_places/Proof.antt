@@ -1,22 +1,23 @@
 -- `store_places` meets its contract.
 -- Assumes nothing.
-use borrow.Author.Needs.{needs}
-use native.Mathlib.Nat.{mul-le-mul}
+use Prim.Native.Nat.{_≤_}
 use native.Mathlib.Omega.{arith}
-use Prim.Native.Nat.{_+_, _≤_}
-use Rattle.steps.specs.Pool.{largestPool}
-use Rattle.grounds.specs.Grounds.{storePlaces}
+use borrow.Author.Needs.{needs}
+use Rattle.model.specs.Number.{triangle}
+use Rattle.model.specs.Number.Laws.{triangle-closed}
+use Rattle.grounds.specs.Grounds.Laws.{store-places, start-word}
 use Rattle.grounds.proofs.store_places.Statement.{statement}
 use Rattle.grounds.proofs.store_places.Tie as tie
 
-mul-result : tie.Need-mul-result
-unfolding largestPool
-mul-result c =
-    let n = c .args .n in
-    let first : n + 1 ≤ 65 = omega arith in
-    let second : n + 2 ≤ 66 = omega arith in
-    omega (arith, mul-le-mul first second)
+-- A row starts in the lower half of the words.
+start : (c : tie.After-row-start) → c .row-start .result ≤ 9223372036854775807
+start c =
+    let n = c .before .args .n in
+    rw (c .row-start .ensures) (omega (arith, triangle-closed n, start-word {k = n} (omega arith)))
+
+returns : tie.Need-returns
+unfolding triangle
+returns c = rw (c .row-start .ensures, store-places (c .before .args .n)) (omega arith)
 
 pub store-places-spec : {M : Type 1} → statement M
-unfolding storePlaces
-store-places-spec = tie.close (tie.spec (λ c. search needs) (λ c. search needs) mul-result (λ c. omega arith))
+store-places-spec = tie.close (tie.spec (λ c κs. search needs) (λ c. omega (arith, start c)) (λ c. omega (arith, start c)) returns)
