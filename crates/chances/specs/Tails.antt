@@ -3,7 +3,6 @@
 use Prim.Native.Nat.{ℕ, suc, _≤_}
 use mathlib.Core.Path.{_≡_}
 use mathlib.Core.List.{List}
-use lib.ListN.{getD}
 use Rattle.model.specs.Fraction.{AtMost, certainty}
 use Rattle.kept.specs.declared.Kept.{Kept}
 use Rattle.kept.specs.declared.Side.the-variants.{Low}
@@ -11,18 +10,17 @@ use Rattle.kept.specs.Rounding.{value}
 use Rattle.steps.specs.Chances.{keptTail}
 use Rattle.steps.specs.Column.{printedTail, printedRow}
 use Rattle.steps.specs.Exponents.{Ranged, TailNumber}
-use Rattle.steps.specs.Pool.{largestPool}
-use Rattle.rows.specs.Working.{Entries}
+use Rattle.steps.specs.Inputs.{workingAssets}
+use Rattle.rows.specs.Working.{workingPlaces, Entries}
 use Rattle.rows.specs.Store.{tabulate, overwritten}
 pub mod Laws
 pub mod Units
-pub mod Slices
 
 -- What step 5 asks of the chances: they and their tails have exponents in their range, no tail is above one, and the printed tails do not grow.
 pub record TailsReady (n : ℕ) (chances : List Kept) : Type 0 where
-  pub assets : n ≤ largestPool
+  pub assets : n ≤ workingAssets
   pub chance : ℕ → Kept
-  pub entries : Entries (suc n) chances chance
+  pub entries : Entries workingPlaces (suc n) chances chance
   pub chance-ranged : (j : ℕ) → j ≤ n → Ranged (chance j)
   pub ranged : {x : Kept} → TailNumber Low n chance x → Ranged x
   pub at-most-one : (k : ℕ) → AtMost (value (keptTail Low n chance k)) certainty
@@ -30,8 +28,8 @@ pub record TailsReady (n : ℕ) (chances : List Kept) : Type 0 where
 
 -- The printed tails at 0 to n + 1.
 pub record TailsPrinted (n : ℕ) (chances : List Kept) (tails : List ℕ) : Type 0 where
-  pub tail : (c : ℕ → Kept) → Entries (suc n) chances c → (k : ℕ) → k ≤ suc n → getD tails k 0 ≡ printedTail n c k
+  pub tails-are : (c : ℕ → Kept) → Entries workingPlaces (suc n) chances c → Entries (suc workingPlaces) (suc (suc n)) tails (printedTail n c)
 
 -- Rows 0 to n in a slice that held `old`.
 pub record RowsPrinted (n : ℕ) (chances : List Kept) (old new : List ℕ) : Type 0 where
-  pub rows : (c : ℕ → Kept) → Entries (suc n) chances c → new ≡ overwritten (tabulate (suc n) (printedRow n c)) old
+  pub rows : (c : ℕ → Kept) → Entries workingPlaces (suc n) chances c → new ≡ overwritten (tabulate (suc n) (printedRow n c)) old

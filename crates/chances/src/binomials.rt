@@ -1,13 +1,15 @@
 // The binomial coefficients C(n,j), exactly.
 use rows::PLACES;
 ghost use Prim.Native.Nat.{suc, _≤_, _<_};
-ghost use Rattle.steps.specs.Pool.{largestPool};
-ghost use Rattle.chances.specs.Binomials.{Binomials};
+ghost use Rattle.model.specs.Number.{choose};
+ghost use Rattle.steps.specs.Inputs.{workingAssets};
+ghost use Rattle.rows.specs.Working.{workingPlaces, Entries};
+ghost use Rattle.chances.specs.Binomials.{countedAssets};
 
 // The coefficients of k + 1 from those of k: the first and the last are one, each between is the sum of two.
 fn next_binomials(row: [u64; PLACES], k: u32) -> [u64; PLACES]
-    requires { ⌜ Binomials k row ⌝ ∗ ⌜ k < largestPool ⌝ }
-    ensures { λ r. ⌜ Binomials (suc k) r ⌝ }
+    requires { ⌜ Entries workingPlaces (suc k) row (choose k) ⌝ ∗ ⌜ k < countedAssets ⌝ ∗ ⌜ k < workingAssets ⌝ }
+    ensures { λ r. ⌜ Entries workingPlaces (suc (suc k)) r (choose (suc k)) ⌝ }
 {
     let mut next = [1u64; PLACES];
     let between = k as usize;
@@ -19,8 +21,8 @@ fn next_binomials(row: [u64; PLACES], k: u32) -> [u64; PLACES]
 
 // C(n,0) to C(n,n).
 pub fn binomials(n: u32) -> [u64; PLACES]
-    requires { ⌜ n ≤ largestPool ⌝ }
-    ensures { λ r. ⌜ Binomials n r ⌝ }
+    requires { ⌜ n ≤ countedAssets ⌝ ∗ ⌜ n ≤ workingAssets ⌝ }
+    ensures { λ r. ⌜ Entries workingPlaces (suc n) r (choose n) ⌝ }
 {
     let mut row = [1u64; PLACES];
     for k in 0..n {

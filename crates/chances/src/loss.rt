@@ -6,11 +6,12 @@ use rows::PLACES;
 ghost use mathlib.Core.Path.{_≡_};
 ghost use Prim.Native.Nat.{_≤_};
 ghost use Rattle.model.specs.Chances.{lossUnits};
-ghost use Rattle.chances.specs.Loss.{TrancheInRange, LossReady, LossMade};
+ghost use Rattle.steps.specs.Inputs.{workingAssets, TrancheInRange};
+ghost use Rattle.chances.specs.Loss.{LossReady, LossMade};
 
 // The loss units of so many defaults among n assets: what is lost, cut at the upper attachment, less the lower one.
 fn loss_units(n: u32, defaults: u32, recovery: u32, lower: u32, upper: u32) -> u32
-    requires { ⌜ TrancheInRange n recovery lower upper ⌝ ∗ ⌜ defaults ≤ n ⌝ }
+    requires { ⌜ TrancheInRange recovery lower upper ⌝ ∗ ⌜ n ≤ workingAssets ⌝ ∗ ⌜ defaults ≤ n ⌝ }
     ensures { λ r. ⌜ r ≡ lossUnits n recovery lower upper defaults ⌝ }
 {
     let lost = defaults * (WHOLE - recovery);

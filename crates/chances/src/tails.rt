@@ -1,6 +1,7 @@
 // The printed column: its rows are differences of tails in whole units.
 use kept::Kept;
 use kept::Side;
+use model::UNITS;
 use rows::PLACES;
 ghost use mathlib.Core.Path.{_≡_};
 ghost use Prim.Native.Nat.{_<_};
@@ -21,7 +22,7 @@ fn in_units(x: Kept) -> u32
     if x.exponent < -63 {
         return 0;
     }
-    ((x.significand as u64 * 100_000) >> (0 - x.exponent) as u32) as u32
+    ((x.significand as u64 * UNITS as u64) >> (0 - x.exponent) as u32) as u32
 }
 
 // The printed tails at 0 to n + 1.
@@ -37,7 +38,7 @@ fn printed_tails(n: u32, chances: [Kept; PLACES]) -> [u32; TAILS]
         total = total.sum(chances[j], Side::Low);
         tails[j] = in_units(total);
     }
-    tails[0] = 100_000;
+    tails[0] = UNITS;
     tails
 }
 

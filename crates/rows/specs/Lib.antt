@@ -1,2 +1,3 @@
 pub mod Working
 pub mod Store
+pub mod Filling

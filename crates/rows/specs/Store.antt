@@ -1,16 +1,12 @@
--- What a fill leaves in the two slices of one side of the store.
+-- What a fill leaves in one side of the store.
 -- Assumes nothing.
-use Prim.Native.Nat.{ℕ, zero, suc, _+_, _≤_}
-use mathlib.Core.Path.{_≡_}
+use Prim.Native.Nat.{ℕ, zero, suc, _+_}
 use mathlib.Core.List.{List, [], _∷_, _++_, map}
 use lib.ListN.{length, drop}
-use lib.Seq.{paste}
 use lib.IntN.{ℤ}
-use Rattle.model.specs.Number.{triangle}
 use Rattle.kept.specs.declared.Kept.{Kept}
 use Rattle.kept.specs.declared.Side.{Side}
-use Rattle.steps.specs.Rows.{keptRow}
-use Rattle.rows.specs.Working.{workingPlaces, Entries, InRange}
+use Rattle.steps.specs.CorrelatedBinomial.Rows.{keptRow}
 pub mod Laws
 
 -- f 0, f 1, … f (m − 1)
@@ -28,33 +24,23 @@ module _ (side : Side) (p ρ : ℕ) where
   rowsBefore zero = []
   rowsBefore (suc m) = rowsBefore m ++ tabulate (suc m) (keptRow side p ρ m)
 
-  -- Rows 0 to n in the slice of significands.
-  unfoldable pub storedSignificands : ℕ → List ℕ
-  storedSignificands n = map (λ x. x .significand) (rowsBefore (suc n))
+  -- One field of rows 0 to n, the significands or the exponents.
+  unfoldable pub stored : {A : Type 0} → (Kept → A) → ℕ → List A
+  stored field n = map field (rowsBefore (suc n))
 
-  -- Rows 0 to n in the slice of exponents.
-  unfoldable pub storedExponents : ℕ → List ℤ
-  storedExponents n = map (λ x. x .exponent) (rowsBefore (suc n))
+-- ---- one side
 
--- What storing the first m entries of a row from a place on asks of the two slices.
-pub record Storable (m at : ℕ) (s : List ℕ) (e : List ℤ) : Type 0 where
-  pub places : m ≤ workingPlaces
-  pub significands : at + m ≤ length s
-  pub exponents : at + m ≤ length e
+-- One side of a store: a slice of significands and one of exponents.
+pub record SideStore : Type 0 where
+  pub significands : List ℕ
+  pub exponents : List ℤ
 
--- What it leaves in them, s′ and e′ where they were s and e.
-pub record Stored (row : List Kept) (m at : ℕ) (s s′ : List ℕ) (e e′ : List ℤ) : Type 0 where
-  pub significands : s′ ≡ paste s at (map (λ x. x .significand) row) m
-  pub exponents : e′ ≡ paste e at (map (λ x. x .exponent) row) m
+abbrev pub sideStore : List ℕ → List ℤ → SideStore
+sideStore s e = record { significands = s; exponents = e }
 
--- What filling rows 0 to n of one side asks of its inputs and of the two slices.
-pub record Fillable (n p ρ : ℕ) (s : List ℕ) (e : List ℤ) : Type 0 where
-  pub range : InRange n p ρ
-  pub significands : triangle (suc n) ≤ length s
-  pub exponents : triangle (suc n) ≤ length e
-
--- What it leaves: the two slices, s′ and e′ where they were s and e, and row n.
-pub record Filled (side : Side) (n p ρ : ℕ) (s s′ : List ℕ) (e e′ : List ℤ) (row : List Kept) : Type 0 where
-  pub significands : s′ ≡ overwritten (storedSignificands side p ρ n) s
-  pub exponents : e′ ≡ overwritten (storedExponents side p ρ n) e
-  pub last : Entries (suc n) row (keptRow side p ρ n)
+-- After a fill: rows 0 to n by steps 1 to 3, zero being 0 and 0; later places keep their content.
+unfoldable pub filledSide : (side : Side) (n p ρ : ℕ) → SideStore → SideStore
+filledSide side n p ρ h = record {
+  significands = overwritten (stored side p ρ (λ x. x .significand) n) (h .significands);
+  exponents = overwritten (stored side p ρ (λ x. x .exponent) n) (h .exponents);
+}

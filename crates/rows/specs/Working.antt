@@ -1,50 +1,40 @@
--- The working row under the passes, and what the functions that work on it ask and leave.
+-- The working row, and what the functions that work on it ask and leave.
 -- Assumes nothing.
 use Prim.Native.Nat.{ℕ, suc, _≤_, _<_}
 use mathlib.Core.Path.{_≡_}
 use mathlib.Core.List.{List}
 use lib.ListN.{length, getD}
-use Rattle.model.specs.Fraction.{whole}
+use Rattle.model.specs.Passes.{passed}
 use Rattle.kept.specs.declared.Kept.{Kept}
 use Rattle.kept.specs.declared.Side.{Side}
-use Rattle.kept.specs.Rounding.{Operand, nought, roundedProduct, roundedSum}
-use Rattle.steps.specs.Rows.{constant, keptRow}
-use Rattle.steps.specs.Pool.{largestPool}
+use Rattle.kept.specs.Rounding.{Operand, nought}
+use Rattle.steps.specs.CorrelatedBinomial.Rows.{constant, keptPassStep, keptRow}
+use Rattle.steps.specs.Inputs.{workingAssets, InRange}
 pub mod Laws
 
--- A row has one entry more than there are assets at most.
+-- Of the places of a row, the first m hold f 0 to f (m − 1).
+pub record Entries {A : Type 0} (places m : ℕ) (row : List A) (f : ℕ → A) : Type 0 where
+  pub places-are : length row ≡ places
+  pub entry : (d : A) (j : ℕ) → j < m → getD row j d ≡ f j
+
+-- A working row has one place more than it has assets at most.
 unfoldable pub workingPlaces : ℕ
-workingPlaces = suc largestPool
+workingPlaces = suc workingAssets
 
--- Of the places of a working row, the first m hold f 0 to f (m − 1).
-pub record Entries (m : ℕ) (row : List Kept) (f : ℕ → Kept) : Type 0 where
-  pub places : length row ≡ workingPlaces
-  pub entry : (j : ℕ) → j < m → getD row j nought ≡ f j
-
--- Where the first m entries of `row` are f, those of r are φ f.
-pub record Becomes (m : ℕ) (row r : List Kept) (φ : (ℕ → Kept) → ℕ → Kept) : Type 0 where
-  pub made : (f : ℕ → Kept) → Entries m row f → Entries m r (φ f)
-
--- A pool whose number of assets, default probability and correlation are accepted.
-pub record InRange (n p ρ : ℕ) : Type 0 where
-  pub assets : n ≤ largestPool
-  pub probability : p ≤ whole
-  pub correlation : ρ ≤ whole
-
--- One entry of a pass, for a correlation that is a kept number already.
-unfoldable pub roundedPassStep : Side → (correlation x y : Kept) → Kept
-roundedPassStep side correlation x y = roundedSum side x (roundedProduct side correlation y)
-
--- What the passes over row k ask: the correlation and the row are those of a pool in range.
-pub record Passable (side : Side) (k : ℕ) (correlation : Kept) (row : List Kept) : Type 0 where
+-- Row k after s of its passes, of a pool in range whose correlation is the kept one.
+pub record Passable (side : Side) (k s : ℕ) (correlation : Kept) (row : List Kept) : Type 0 where
   pub p : ℕ
   pub ρ : ℕ
-  pub range : InRange k p ρ
+  pub range : InRange workingAssets k p ρ
   pub correlation-is : correlation ≡ constant side ρ
-  pub entries : Entries (suc k) row (keptRow side p ρ k)
+  pub entries : Entries workingPlaces (suc k) row (passed (keptPassStep side (constant side ρ)) (suc k) s (keptRow side p ρ k))
+
+-- What s passes over row k leave, in r where it was `row`.
+pub record Passed (side : Side) (correlation : Kept) (k s : ℕ) (row r : List Kept) : Type 0 where
+  pub entries : (f : ℕ → Kept) → Entries workingPlaces (suc k) row f
+      → Entries workingPlaces (suc k) r (passed (keptPassStep side correlation) (suc k) s f)
 
 -- What is asked of the first m entries of a row and of their weights: each can be an operand.
 pub record Weightable (m : ℕ) (row weights : List Kept) : Type 0 where
   pub places : m ≤ workingPlaces
-  pub entry : (j : ℕ) → j < m → Operand (getD row j nought)
-  pub weight : (j : ℕ) → j < m → Operand (getD weights j nought)
+  pub operands : (j : ℕ) → j < m → Operand (getD row j nought) × Operand (getD weights j nought)

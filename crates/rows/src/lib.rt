@@ -2,22 +2,22 @@
 use kept::Kept;
 use kept::Side;
 use model::WHOLE;
-use steps::LARGEST_POOL;
-ghost use Prim.Native.Nat.{suc};
+use steps::WORKING_ASSETS;
 ghost use lib.ListN.{getD};
-ghost use Rattle.model.specs.Passes.{passed};
 ghost use Rattle.kept.specs.Rounding.{nought, roundedProduct};
-ghost use Rattle.steps.specs.Rows.{keptWeight};
-ghost use Rattle.rows.specs.Working.{Entries, Becomes, InRange, roundedPassStep, Passable, Weightable};
-ghost use Rattle.rows.specs.Store.{Storable, Stored, Fillable, Filled};
+ghost use Rattle.steps.specs.CorrelatedBinomial.Rows.{keptWeight};
+ghost use Rattle.steps.specs.Inputs.{workingAssets, InRange};
+ghost use Rattle.rows.specs.Working.{workingPlaces, Entries, Passable, Passed, Weightable};
+ghost use Rattle.rows.specs.Store.{sideStore};
+ghost use Rattle.rows.specs.Filling.{Storable, Stored, Fillable, Filled};
 
-// The places of a working row: 65, one more than the assets of the largest pool.
-pub const PLACES: usize = LARGEST_POOL as usize + 1;
+// The places of a working row: one more than the assets that it has places for.
+pub const PLACES: usize = WORKING_ASSETS as usize + 1;
 
 // Passes 1 to k over the k + 1 entries of row k. A pass goes upward, so that entry j + 1 is still the old one when entry j is made.
 fn passes(row: [Kept; PLACES], correlation: Kept, k: usize, side: Side) -> [Kept; PLACES]
-    requires { ⌜ Passable side k correlation row ⌝ }
-    ensures { λ r. ⌜ Becomes (suc k) row r (passed (roundedPassStep side correlation) (suc k) k) ⌝ }
+    requires { ⌜ Passable side k 0 correlation row ⌝ }
+    ensures { λ r. ⌜ Passed side correlation k k row r ⌝ }
 {
     let mut w = row;
     for s in 0..k {
@@ -32,8 +32,8 @@ fn passes(row: [Kept; PLACES], correlation: Kept, k: usize, side: Side) -> [Kept
 
 // g_0 to g_(n−1).
 fn weights(p: u32, rho: u32, n: usize, side: Side) -> [Kept; PLACES]
-    requires { ⌜ InRange n p rho ⌝ }
-    ensures { λ r. ⌜ Entries n r (keptWeight side p rho) ⌝ }
+    requires { ⌜ InRange workingAssets n p rho ⌝ }
+    ensures { λ r. ⌜ Entries workingPlaces n r (keptWeight side p rho) ⌝ }
 {
     let a = Kept::from_basis_points(WHOLE - p, side);
     let q = Kept::from_basis_points(WHOLE - rho, side);
@@ -50,7 +50,7 @@ fn weights(p: u32, rho: u32, n: usize, side: Side) -> [Kept; PLACES]
 // Entries 0 to n − 1, each times its weight.
 fn weighted(row: [Kept; PLACES], weights: [Kept; PLACES], n: usize, side: Side) -> [Kept; PLACES]
     requires { ⌜ Weightable n row weights ⌝ }
-    ensures { λ r. ⌜ Becomes n row r (λ f j. roundedProduct side (f j) (getD weights j nought)) ⌝ }
+    ensures { λ r. ⌜ Entries workingPlaces n r (λ j. roundedProduct side (getD row j nought) (getD weights j nought)) ⌝ }
 {
     let mut w = row;
     for j in 0..n {
@@ -69,8 +69,9 @@ fn store(
     significands: &mut [u32],
     exponents: &mut [i32],
 )
-    requires { ⌜ Storable count at (now significands) (now exponents) ⌝ }
-    ensures { λ _. ⌜ Stored row count at (now (significands .entry)) (now (significands .exit)) (now (exponents .entry)) (now (exponents .exit)) ⌝ }
+    requires { ⌜ Storable count at (sideStore (now significands) (now exponents)) ⌝ }
+    ensures { λ _. ⌜ Stored row count at (sideStore (now (significands .entry)) (now (exponents .entry)))
+        (sideStore (now (significands .exit)) (now (exponents .exit))) ⌝ }
 {
     for j in 0..count {
         let x = row[j];
@@ -89,8 +90,9 @@ pub fn fill_side(
     significands: &mut [u32],
     exponents: &mut [i32],
 ) -> [Kept; PLACES]
-    requires { ⌜ Fillable n p rho (now significands) (now exponents) ⌝ }
-    ensures { λ r. ⌜ Filled side n p rho (now (significands .entry)) (now (significands .exit)) (now (exponents .entry)) (now (exponents .exit)) r ⌝ }
+    requires { ⌜ Fillable n p rho (sideStore (now significands) (now exponents)) ⌝ }
+    ensures { λ r. ⌜ Filled side n p rho (sideStore (now (significands .entry)) (now (exponents .entry)))
+        (sideStore (now (significands .exit)) (now (exponents .exit))) r ⌝ }
 {
     let count = n as usize;
     let correlation = Kept::from_basis_points(rho, side);

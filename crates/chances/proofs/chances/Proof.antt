@@ -1,68 +1,30 @@
 -- `chances` meets its contract. At the loop's head the chances of fewer than j defaults are made.
 -- Assumes nothing.
-use Prim.Native.Nat.{suc, _-_, _≤_}
-use mathlib.Core.Path.{_≡_, refl}
+use Prim.Native.Nat.{suc, _-_}
+use mathlib.Core.Path.{refl}
 use native.Mathlib.Omega.{arith}
-use Rattle.kept.specs.Rounding.{nought}
-use Rattle.steps.specs.Pool.{largestPool}
+use Rattle.steps.specs.Inputs.{workingAssets}
 use Rattle.rows.specs.Working.{workingPlaces}
-use Rattle.chances.specs.Chances.Laws.{ChancesBelow, entry-operand, chances-none, chances-all, coefficient-operand, chances-next}
+use Rattle.rows.specs.Working.Laws.{entries-none}
+use Rattle.chances.specs.Chances.Laws.{ChancesBelow, chance-operands, chance-more, chances-all}
 use Rattle.chances.proofs.chances.Statement.{statement}
 use Rattle.chances.proofs.chances.Tie as tie
 
 abbrev Inv-loop : tie.InvT-loop
-Inv-loop n side row coefficients chances₀ places j₀ chances j = (n ≤ 64) × (j ≤ suc n) × ChancesBelow side n j row chances
+Inv-loop n side row coefficients chances₀ places j₀ chances j = ChancesBelow side n j row coefficients chances
 
 abbrev μ-loop : tie.MeasureT-loop
 μ-loop n side row coefficients chances₀ places j₀ chances j = suc n - j
 
-loop-holds : tie.Need-loop-holds Inv-loop μ-loop
-unfolding workingPlaces largestPool
-loop-holds c = (omega arith, omega arith, chances-none _ refl)
-
-product-requires : tie.Need-product-requires Inv-loop μ-loop
-unfolding nought
-product-requires c κs =
-    let at-loop = c .before .before .before in
-    let start = at-loop .before .before .before in (
-      coefficient-operand (start .pre) (at-loop .before .before .binomials .ensures) (at-loop .loop .j) (omega arith) (c .before .from-integer .ensures),
-      entry-operand (start .pre .entries) (start .pre .entry-ranged) _ (omega arith),
-    )
-
-loop-again : tie.Need-loop-again Inv-loop μ-loop
-unfolding nought
-loop-again c =
-    let at-loop = c .before .before .before .before in
-    let start = at-loop .before .before .before in
-    let next =
-    chances-next (start .pre) (at-loop .before .before .binomials .ensures) (at-loop .loop .j) (omega arith) (c .before .before .from-integer .ensures)
-    (at-loop .loop .inv .2) (c .product .result) (c .product .ensures) in
-    (omega arith, omega arith, next)
-
-returns : tie.Need-returns Inv-loop μ-loop
-returns c =
-    let done : c .before .loop .j ≡ suc (c .before .before .before .before .args .n) = omega arith in
-    chances-all (rw done at (c .before .loop .inv .2))
-
 pub chances-spec : {M : Type 1} → statement M
+unfolding workingPlaces workingAssets
 chances-spec =
     tie.close
-    (tie.spec
-    Inv-loop
-    μ-loop
-    (λ c κs. omega arith)
-    (λ c κs. tt)
-    (λ c. omega arith)
-    loop-holds
-    (λ c. omega arith)
-    (λ c. omega arith)
-    (λ c κs. tt)
-    (λ c. omega arith)
-    (λ c. omega arith)
-    product-requires
-    (λ c. omega arith)
-    (λ c. omega arith)
-    (λ c. omega arith)
-    (λ c. omega arith)
-    loop-again
-    returns)
+    (tie.spec Inv-loop μ-loop
+    (λ c κs. (omega arith, omega arith)) (λ c κs. tt) (λ c. omega arith)
+    (λ c. record { ready = c .before .before .pre; counts = c .before .binomials .ensures; within = omega arith; made = λ _ _. entries-none refl })
+    (λ c. omega arith) (λ c. omega arith) (λ c κs. tt) (λ c. omega arith) (λ c. omega arith)
+    (λ c κs. chance-operands (c .before .before .before .loop .inv) (omega arith) (c .before .from-integer .ensures) _)
+    (λ c. omega arith) (λ c. omega arith) (λ c. omega arith) (λ c. omega arith)
+    (λ c. chance-more (c .before .before .before .before .loop .inv) (omega arith) (c .before .before .from-integer .ensures) _ (c .product .ensures))
+    (λ c. chances-all (c .before .loop .inv) (omega arith)))

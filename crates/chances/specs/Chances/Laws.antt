@@ -1,55 +1,55 @@
 -- A working row of chances, place by place.
 -- Assumes nothing.
 use Prim.Native.Nat.{ℕ, suc, _+_, _≤_}
-use mathlib.Core.Path.{_≡_, ap, ap₂, _∙_}
+use mathlib.Core.Path.{_≡_}
 use mathlib.Core.List.{List}
 use native.Mathlib.Omega.{arith}
-use lib.ListN.{length, getD, set}
+use lib.ListN.{getD, set}
 use Rattle.model.specs.Number.{choose}
 use Rattle.kept.specs.declared.Kept.{Kept}
 use Rattle.kept.specs.declared.Side.{Side}
-use Rattle.kept.specs.Rounding.{Operand, nought, ofInteger, roundedProduct}
+use Rattle.kept.specs.Rounding.{Operand, ofInteger, roundedProduct}
 use Rattle.steps.specs.Chances.{keptChance}
 use Rattle.steps.specs.Exponents.{Ranged, is-count}
 use Rattle.steps.specs.Exponents.Laws.{ranged-operand}
-use Rattle.rows.specs.Working.{Entries, workingPlaces}
+use Rattle.rows.specs.Working.{workingPlaces, Entries}
 use Rattle.rows.specs.Working.Laws.{entries-more}
 use Rattle.chances.specs.Chances.{ChancesReady, ChancesMade}
-use Rattle.chances.specs.Binomials.{Binomials}
 
--- ---- any working row
+-- An entry of any working row.
+pub entry-operand : {n : ℕ} {row : List Kept} {f : ℕ → Kept} → Entries workingPlaces (suc n) row f → ((j : ℕ) → j ≤ n → Ranged (f j))
+    → (d : Kept) (j : ℕ) → j ≤ n → Operand (getD row j d)
+entry-operand entries ranged d j l = rw (entries .entry d j (omega arith)) (ranged-operand (ranged j l))
 
-pub entry-operand : {n : ℕ} {row : List Kept} {f : ℕ → Kept} → Entries (suc n) row f → ((j : ℕ) → j ≤ n → Ranged (f j))
-    → (j : ℕ) → j ≤ n → Operand (getD row j nought)
-entry-operand entries ranged j l = rw (entries .entry j (omega arith)) (ranged-operand (ranged j l))
+-- The chances of fewer than j defaults are made in r.
+pub record ChancesBelow (side : Side) (n j : ℕ) (row : List Kept) (coefficients : List ℕ) (r : List Kept) : Type 0 where
+  pub ready : ChancesReady side n row
+  pub counts : Entries workingPlaces (suc n) coefficients (choose n)
+  pub within : j ≤ suc n
+  pub made : (entry : ℕ → Kept) → Entries workingPlaces (suc n) row entry → Entries workingPlaces j r (λ i. keptChance side n i (entry i))
 
--- ---- chances
-
--- The chances of fewer than m defaults are made.
-pub record ChancesBelow (side : Side) (n m : ℕ) (row r : List Kept) : Type 0 where
-  pub chances : (entry : ℕ → Kept) → Entries (suc n) row entry → Entries m r (λ j. keptChance side n j (entry j))
-
-module _ {side : Side} {n : ℕ} {row : List Kept} where
-  pub chances-none : (r : List Kept) → length r ≡ workingPlaces → ChancesBelow side n 0 row r
-  chances-none r l = record { chances = λ entry e. record { places = l; entry = λ j none. absurd (omega arith) } }
-
-  pub chances-all : {r : List Kept} → ChancesBelow side n (suc n) row r → ChancesMade side n row r
-  chances-all done = record { chances = done .chances }
-
+module _
+    {side : Side} {n j : ℕ} {row : List Kept} {coefficients : List ℕ} {r : List Kept} (done : ChancesBelow side n j row coefficients r) where
   -- The chance of j defaults: x is the binomial coefficient.
-  module _
-      (ready : ChancesReady side n row) {coefficients : List ℕ} (binomials : Binomials n coefficients)
-      (j : ℕ) (l : j ≤ n) {x : Kept} (is : x ≡ ofInteger side (getD coefficients j 0)) where
+  module _ (l : j ≤ n) {x : Kept} (is : x ≡ ofInteger side (getD coefficients j 0)) (d : Kept) where
     coefficient-is : x ≡ ofInteger side (choose n j)
-    coefficient-is = is ∙ ap (ofInteger side) (binomials .coefficient j l)
+    coefficient-is = rw (is, done .counts .entry 0 j (omega arith))
 
-    pub coefficient-operand : Operand x
-    coefficient-operand = rw coefficient-is (ranged-operand (ready .ranged (is-count j l)))
+    pub chance-operands : Operand x × Operand (getD row j d)
+    chance-operands = (
+      rw coefficient-is (ranged-operand (done .ready .ranged (is-count j l))),
+      entry-operand (done .ready .entries) (done .ready .entry-ranged) d j l,
+    )
 
-    pub chances-next : {r : List Kept} → ChancesBelow side n j row r → (y : Kept) → y ≡ roundedProduct side x (getD row j nought)
-        → ChancesBelow side n (j + 1) row (set r j y)
+    pub chance-more : {y : Kept} → y ≡ roundedProduct side x (getD row j d) → ChancesBelow side n (j + 1) row coefficients (set r j y)
     unfolding workingPlaces keptChance
-    chances-next done y product = record {
-      chances = λ entry e.
-          entries-more (done .chances entry e) (omega (arith, ready .assets)) (product ∙ ap₂ (roundedProduct side) coefficient-is (e .entry j (omega arith)));
+    chance-more product = record {
+      ready = done .ready;
+      counts = done .counts;
+      within = omega arith;
+      made = λ entry e.
+          entries-more (done .made entry e) (omega (arith, done .ready .assets)) (rw (product, coefficient-is, e .entry d j (omega arith)));
     }
+
+  pub chances-all : j ≡ suc n → ChancesMade side n row r
+  chances-all all = record { chances = rw all at (done .made) }

@@ -1,7 +1,7 @@
 -- Loss units in unsigned words, and the running total of an expected loss.
 -- Assumes nothing.
 use Prim.Native.Nat.{ℕ, suc, _+_, _-_, _*_, _^_, _≤_, _<_, min}
-use mathlib.Core.Path.{_≡_, ap, ap₂, _∙_}
+use mathlib.Core.Path.{_≡_, ap, _∙_}
 use mathlib.Core.List.{List}
 use native.Mathlib.Nat.{mul-le-mul}
 use native.Mathlib.Numerals.{add-one}
@@ -9,14 +9,15 @@ use native.Mathlib.Omega.{arith}
 use lib.ListN.{getD}
 use Rattle.model.specs.Fraction.{whole, complement}
 use Rattle.model.specs.Chances.{lossUnits}
-use Rattle.model.specs.Chances.Laws.{loss-units-whole}
+use Rattle.model.specs.Chances.Laws.{loss-units-whole, tranche-wide}
 use Rattle.kept.specs.declared.Kept.{Kept}
 use Rattle.kept.specs.declared.Side.{Side}
-use Rattle.kept.specs.Rounding.{Operand, nought, ofInteger, roundedProduct, roundedSum, roundedQuotient}
+use Rattle.kept.specs.Rounding.{Operand, ofInteger, roundedProduct, roundedSum, roundedQuotient}
 use Rattle.steps.specs.Chances.{keptTotal, keptTerm, keptLoss}
 use Rattle.steps.specs.Exponents.{is-units, is-term, is-total}
 use Rattle.steps.specs.Exponents.Laws.{ranged-operand}
-use Rattle.rows.specs.Working.{Entries}
+use Rattle.rows.specs.Working.{workingPlaces, Entries}
+use Rattle.chances.specs.Chances.Laws.{entry-operand}
 use Rattle.chances.specs.Loss.{LossReady, LossMade}
 
 -- ---- loss units
@@ -36,40 +37,46 @@ loss-units-cut n R A B X l =
 
 -- The terms of fewer than X defaults are added.
 pub record LossBelow (side : Side) (n : ℕ) (chances : List Kept) (R A B X : ℕ) (total : Kept) : Type 0 where
-  pub terms : (c : ℕ → Kept) → Entries (suc n) chances c → total ≡ keptTotal side (keptTerm side n c R A B) X
+  pub ready : LossReady side n chances R A B
+  pub within : X ≤ suc n
+  pub terms : (c : ℕ → Kept) → Entries workingPlaces (suc n) chances c → total ≡ keptTotal side (keptTerm side n c R A B) X
 
-module _ {side : Side} {n : ℕ} {chances : List Kept} {R A B : ℕ} (ready : LossReady side n chances R A B) where
-  pub terms-none : {total : Kept} → total ≡ nought → LossBelow side n chances R A B 0 total
-  unfolding keptTotal
-  terms-none is = record { terms = λ c e. is }
-
-  pub total-operand : {X : ℕ} {total : Kept} → LossBelow side n chances R A B X total → X ≤ suc n → Operand total
-  total-operand {X} done l = rw (done .terms (ready .chance) (ready .entries)) (ranged-operand (ready .ranged (is-total X l)))
+module _
+    {side : Side} {n : ℕ} {chances : List Kept} {R A B X : ℕ} {total : Kept} (done : LossBelow side n chances R A B X total) where
+  total-operand : Operand total
+  total-operand = rw (done .terms _ (done .ready .entries)) (ranged-operand (done .ready .ranged (is-total X (done .within))))
 
   -- The term of X defaults: x is its loss units, y the product.
-  module _ (X : ℕ) (l : X ≤ n) {u : ℕ} {x : Kept} (units : u ≡ lossUnits n R A B X) (is : x ≡ ofInteger side u) where
+  module _ (l : X ≤ n) {u : ℕ} {x : Kept} (units : u ≡ lossUnits n R A B X) (is : x ≡ ofInteger side u) (d : Kept) where
     kept-units : x ≡ ofInteger side (lossUnits n R A B X)
-    kept-units = is ∙ ap (ofInteger side) units
+    kept-units = rw (is, units)
 
-    pub units-operand : Operand x
-    units-operand = rw kept-units (ranged-operand (ready .ranged (is-units X l)))
+    pub product-operands : Operand (getD chances X d) × Operand x
+    product-operands = (
+      entry-operand (done .ready .entries) (done .ready .chance-ranged) d X l,
+      rw kept-units (ranged-operand (done .ready .ranged (is-units X l))),
+    )
 
-    module _ {y : Kept} (product : y ≡ roundedProduct side (getD chances X nought) x) where
-      term-is : (c : ℕ → Kept) → Entries (suc n) chances c → y ≡ keptTerm side n c R A B X
+    module _ {y : Kept} (product : y ≡ roundedProduct side (getD chances X d) x) where
+      term-is : (c : ℕ → Kept) → Entries workingPlaces (suc n) chances c → y ≡ keptTerm side n c R A B X
       unfolding keptTerm
-      term-is c e = product ∙ ap₂ (roundedProduct side) (e .entry X (omega arith)) kept-units
+      term-is c e = rw (product, e .entry d X (omega arith), kept-units)
 
-      pub term-operand : Operand y
-      term-operand = rw (term-is (ready .chance) (ready .entries)) (ranged-operand (ready .ranged (is-term X l)))
+      pub sum-operands : Operand total × Operand y
+      sum-operands = (total-operand, rw (term-is _ (done .ready .entries)) (ranged-operand (done .ready .ranged (is-term X l))))
 
-      pub terms-next : {total z : Kept} → LossBelow side n chances R A B X total → z ≡ roundedSum side total y
-          → LossBelow side n chances R A B (X + 1) z
+      pub term-more : {z : Kept} → z ≡ roundedSum side total y → LossBelow side n chances R A B (X + 1) z
       unfolding keptTotal
-      terms-next done added = record { terms = λ c e. rw (add-one X) (added ∙ ap₂ (roundedSum side) (done .terms c e) (term-is c e)) }
+      term-more sum = rw (add-one X) (record {
+        ready = done .ready;
+        within = omega arith;
+        terms = λ c e. rw (sum, done .terms c e, term-is c e);
+      })
 
-  pub loss-made : {total r : Kept} → LossBelow side n chances R A B (suc n) total
-      → ((wide : 0 < (B - A) * n) → r ≡ roundedQuotient side total ((B - A) * n) wide) → LossMade side n chances R A B r
+  pub quotient-operands : Operand total × (0 < (B - A) * n)
+  quotient-operands = (total-operand, tranche-wide (done .ready .not-empty) (done .ready .tranche .lower))
+
+  pub loss-made : {r : Kept} → X ≡ suc n → ((wide : 0 < (B - A) * n) → r ≡ roundedQuotient side total ((B - A) * n) wide)
+      → LossMade side n chances R A B r
   unfolding keptLoss
-  loss-made done quotient = record {
-    loss = λ c e wide. quotient wide ∙ ap (λ x. roundedQuotient side x ((B - A) * n) wide) (done .terms c e);
-  }
+  loss-made all quotient = record { loss = λ c e wide. rw (quotient wide, done .terms c e, all) }

@@ -3,10 +3,9 @@
 use Prim.Native.Nat.{ℕ, zero, suc, _*_, _/_, _^_, _≤_, _<_}
 use mathlib.Core.Path.{_≡_, refl, sym, ap, _∙_}
 use mathlib.Core.Logic.{inl, inr}
-use mathlib.Core.Bool.{true, false, true≢false}
-use native.Mathlib.Nat.{div-eq-of-lt, lt-of-lt-of-le, mul-le-mul-left}
+use native.Mathlib.Nat.{div-eq-of-lt, div-lt-iff-lt-mul, lt-of-lt-of-le, mul-le-mul-left}
 use native.Mathlib.Omega.{arith}
-use borrow.Author.Tests.{ltb-true, ltb-false}
+use lib.Dec.{ltb, leb·suc-suc}
 use lib.Ieee.{up, down}
 use lib.IntN.{ℤ, pos, negsuc, negℤ, _-ℤ_, +ℤ-idl, negℤ-negℤ}
 use lib.Pow.{pow-mono, pow-pos}
@@ -17,6 +16,8 @@ use Rattle.kept.specs.Rounding.{IsKept, Normal, scaled, value, nought}
 use Rattle.kept.specs.Rounding.Laws.{kept-below}
 use Rattle.steps.specs.Column.{unitsOfCertainty, inUnits}
 
+-- ---- an exponent that is a number of binary places, negated
+
 up-places : (k : ℕ) → up (negℤ (pos k)) ≡ 1
 up-places zero = refl
 up-places (suc k) = refl
@@ -25,7 +26,17 @@ down-places : (k : ℕ) → down (negℤ (pos k)) ≡ 2 ^ k
 down-places zero = refl
 down-places (suc k) = refl
 
--- A number of at most one has so many binary places: its exponent is that number negated.
+-- It is below −63 for 64 binary places or more.
+pub places-test : (k : ℕ) → ltZ (negℤ (pos k)) (negsuc 62) ≡ ltb 63 k
+places-test zero = refl
+places-test (suc k) = sym (leb·suc-suc 63 k)
+
+pub places-back : (k : ℕ) → pos 0 -ℤ negℤ (pos k) ≡ pos k
+places-back k = +ℤ-idl (negℤ (negℤ (pos k))) ∙ negℤ-negℤ (pos k)
+
+-- ---- a number of at most one
+
+-- It has so many binary places.
 pub record Fractional (x : Kept) : Type 0 where
   pub places : ℕ
   pub is : x .exponent ≡ negℤ (pos places)
@@ -45,29 +56,17 @@ kept-fractional {x} kept le = elim (kept .form) [
     normal-places normal (pos k) is = absurd (omega (arith, rw is at (le .cross), mul-le-mul-left (x .significand) (pow-pos k)))
     normal-places normal (negsuc k) is = with-places (suc k) is
 
-many : (k : ℕ) → ltZ (negℤ (pos k)) (negsuc 62) ≡ true → 64 ≤ k
-many zero test = absurd (true≢false (sym test))
-many (suc k) test = omega (arith, ltb-true 62 k test)
-
-few : (k : ℕ) → ltZ (negℤ (pos k)) (negsuc 62) ≡ false → k < 64
-few zero test = omega arith
-few (suc k) test = omega (arith, ltb-false 62 k test)
-
 module _ {x : Kept} (f : Fractional x) where
-  pub places-many : ltZ (x .exponent) (negsuc 62) ≡ true → 64 ≤ f .places
-  places-many test = many (f .places) (rw (f .is) at test)
-
-  pub places-few : ltZ (x .exponent) (negsuc 62) ≡ false → f .places < 64
-  places-few test = few (f .places) (rw (f .is) at test)
-
-  pub places-back : pos 0 -ℤ x .exponent ≡ pos (f .places)
-  places-back = rw (f .is) (+ℤ-idl (negℤ (negℤ (pos (f .places)))) ∙ negℤ-negℤ (pos (f .places)))
-
-  pub units-shifted : inUnits x ≡ x .significand * 100000 / 2 ^ f .places
-  unfolding inUnits unitsOfCertainty scaled
+  pub units-shifted : inUnits x ≡ x .significand * unitsOfCertainty / 2 ^ f .places
+  unfolding inUnits scaled
   units-shifted =
-      let product : 100000 * (x .significand * 1) ≡ x .significand * 100000 = omega arith in
+      let product : unitsOfCertainty * (x .significand * 1) ≡ x .significand * unitsOfCertainty = omega arith in
       rw (f .is, up-places (f .places), down-places (f .places), product)
 
-  pub units-none : IsKept x → 64 ≤ f .places → inUnits x ≡ 0
+  pub units-word : x .significand * unitsOfCertainty / 2 ^ f .places < 2 ^ 32
+  unfolding unitsOfCertainty
+  units-word = let some : 0 < 2 ^ f .places = pow-pos (f .places) in div-lt-iff-lt-mul some .1 (omega (arith, f .most))
+
+  pub units-none : IsKept x → 63 < f .places → inUnits x ≡ 0
+  unfolding unitsOfCertainty
   units-none kept far = units-shifted ∙ div-eq-of-lt (lt-of-lt-of-le (omega (arith, kept-below kept)) (pow-mono {i = 64} far))
