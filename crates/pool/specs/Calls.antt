@@ -11,13 +11,15 @@ use Rattle.model.specs.CorrelatedBinomial.{defaults}
 use Rattle.kept.specs.declared.Kept.{Kept}
 use Rattle.kept.specs.declared.Side.{Side}
 use Rattle.kept.specs.declared.Side.the-variants.{Low, High}
-use Rattle.steps.specs.Rows.{keptRow}
+use Rattle.steps.specs.CorrelatedBinomial.Rows.{keptRow}
 use Rattle.steps.specs.Column.{unitsOfCertainty, printedTail, printedRow, exactUnits, Within, tenths}
 use Rattle.steps.specs.Enclosure.{Enclosed}
 use Rattle.steps.specs.Exponents.{Ranged}
 use Rattle.steps.specs.Loss.{LossAnswer, lossAnswer, Says}
-use Rattle.steps.specs.Pool.{keptDefaults, keptPoolLoss, poolLoss, PoolEnclosed, PoolNumber}
-use Rattle.rows.specs.Store.{tabulate, overwritten, storedSignificands}
+use Rattle.steps.specs.CorrelatedBinomial.{keptDefaults, keptPoolLoss, poolLoss, PoolEnclosed}
+use Rattle.steps.specs.CorrelatedBinomial.Exponents.{PoolNumber}
+use Rattle.steps.specs.Inputs.{largestPool}
+use Rattle.rows.specs.Store.{tabulate, overwritten, stored}
 use Rattle.grounds.specs.Grounds.{firstGround, fillGrounds, rowGrounds, columnGrounds, lossGrounds}
 use Rattle.pool.specs.declared.Pool.{Pool}
 use Rattle.pool.specs.declared.Tranche.{Tranche}
@@ -40,7 +42,7 @@ pub record LeavesStore (pool : Pool) (before after : Store) (refusal : ℕ) : Ty
 -- ---- fill
 
 unfoldable pub fillRefusal : Pool → Store → ℕ
-fillRefusal pool s = firstGround (fillGrounds (pool .assets) (pool .probability) (pool .correlation) (lengths s))
+fillRefusal pool s = firstGround (fillGrounds largestPool (pool .assets) (pool .probability) (pool .correlation) (lengths s))
 
 pub record Fills (pool : Pool) (before after : Store) (refusal : ℕ) : Type 0 where
   pub refusal-is : refusal ≡ fillRefusal pool before
@@ -49,7 +51,7 @@ pub record Fills (pool : Pool) (before after : Store) (refusal : ℕ) : Type 0 w
 -- ---- row
 
 unfoldable pub rowRefusal : (n k : ℕ) → List ℕ → ℕ
-rowRefusal n k significands = firstGround (rowGrounds n k (length significands))
+rowRefusal n k significands = firstGround (rowGrounds largestPool n k (length significands))
 
 -- The part of the caller's slice that holds row k, k + 1 entries; empty on a refusal.
 unfoldable pub partAfter : (refusal k : ℕ) → List ℕ → List ℕ
@@ -63,13 +65,13 @@ pub record HandsRow (n k : ℕ) (significands part : List ℕ) : Type 0 where
   pub entries : rowRefusal n k significands ≡ 0 → (j : ℕ) → j ≤ k → getD part j 0 ≡ getD significands (place k j) 0
   -- From a slice as an accepted call for m assets left it, m not below n: the significands of row k.
   pub of-filled : rowRefusal n k significands ≡ 0 → (side : Side) (p ρ m : ℕ) (old : List ℕ) → n ≤ m
-      → significands ≡ overwritten (storedSignificands side p ρ m) old → part ≡ tabulate (suc k) (λ j. keptRow side p ρ k j .significand)
+      → significands ≡ overwritten (stored side p ρ (λ x. x .significand) m) old → part ≡ tabulate (suc k) (λ j. keptRow side p ρ k j .significand)
 
 -- ---- column
 
 unfoldable pub columnRefusal : Pool → Store → List ℕ → ℕ
 columnRefusal pool s units =
-    firstGround (columnGrounds (pool .assets) (pool .probability) (pool .correlation) (lengths s) (length units))
+    firstGround (columnGrounds largestPool (pool .assets) (pool .probability) (pool .correlation) (lengths s) (length units))
 
 module _ (n p ρ : ℕ) where
   -- Rows 0 to n of the column, then what stood there; untouched on a refusal.
@@ -97,7 +99,7 @@ pub record Prints (pool : Pool) (before after : Store) (units units′ : List �
 unfoldable pub lossRefusal : Pool → Tranche → Store → ℕ
 lossRefusal pool tranche s =
     firstGround
-    (lossGrounds (pool .assets) (pool .probability) (pool .correlation) (pool .recovery) (tranche .lower) (tranche .upper) (lengths s))
+    (lossGrounds largestPool (pool .assets) (pool .probability) (pool .correlation) (pool .recovery) (tranche .lower) (tranche .upper) (lengths s))
 
 -- The width of a tranche, (B − A) × n, is above zero: what step 6 divides by.
 unfoldable pub Wide : Pool → Tranche → Type 0

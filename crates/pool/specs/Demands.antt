@@ -23,8 +23,9 @@ use Rattle.kept.specs.declared.Kept.{Kept}
 use Rattle.kept.specs.declared.Side.{Side}
 use Rattle.kept.specs.declared.Side.the-variants.{Low, High}
 use Rattle.kept.specs.Rounding.{scaled, value, nought}
-use Rattle.steps.specs.Rows.{keptRow}
-use Rattle.steps.specs.Pool.{keptDefaults, keptPoolTail, keptPoolLoss, poolLoss, PoolNumber}
+use Rattle.steps.specs.CorrelatedBinomial.Rows.{keptRow}
+use Rattle.steps.specs.CorrelatedBinomial.{keptDefaults, keptPoolTail, keptPoolLoss, poolLoss}
+use Rattle.steps.specs.CorrelatedBinomial.Exponents.{PoolNumber}
 use Rattle.grounds.specs.Grounds.{Ground, firstGround, fillGrounds, rowGrounds, columnGrounds, lossGrounds}
 use Rattle.pool.specs.declared.Pool.{Pool}
 use Rattle.pool.specs.declared.Tranche.{Tranche}
@@ -166,12 +167,12 @@ module _ (pool : Pool) where
   places = (n + 1) * (n + 2) / 2
 
   pub record FillDemands (before after : Slices) (refusal : ℕ) : Type 0 where
-    pub one : Demand1 (fillGrounds n p ρ (lengthsOf before)) refusal before after
+    pub one : Demand1 (fillGrounds 64 n p ρ (lengthsOf before)) refusal before after
     pub table : refusal ≡ 0 → TableDemands after
     pub later : refusal ≡ 0 → from places after ≡ from places before
 
   pub record ColumnDemands (before after : Slices) (units units′ : List ℕ) (refusal : ℕ) : Type 0 where
-    pub one : Demand1 {Given = Slices × List ℕ} (columnGrounds n p ρ (lengthsOf before) (length units)) refusal (before, units) (after, units′)
+    pub one : Demand1 {Given = Slices × List ℕ} (columnGrounds 64 n p ρ (lengthsOf before) (length units)) refusal (before, units) (after, units′)
     pub table : refusal ≡ 0 → TableDemands after
     pub later : refusal ≡ 0 → from places after ≡ from places before
     pub column : refusal ≡ 0 → Demand3Column n (chance (defaults n p ρ)) units′
@@ -189,7 +190,7 @@ module _ (pool : Pool) where
 
     -- `wide`: what step 6 divides by is above zero.
     pub record TrancheDemands (before after : Slices) (answer : Answer) : Type 0 where
-      pub one : Demand1 (lossGrounds n p ρ R A B (lengthsOf before)) (refusalIn answer) before after
+      pub one : Demand1 (lossGrounds 64 n p ρ R A B (lengthsOf before)) (refusalIn answer) before after
       pub table : refusalIn answer ≡ 0 → TableDemands after
       pub later : refusalIn answer ≡ 0 → from places after ≡ from places before
       pub wide : refusalIn answer ≡ 0 → 0 < (B - A) * n
@@ -198,7 +199,7 @@ module _ (pool : Pool) where
 
 -- The slice is lent to be read, so that no call can write to it. Row k of a filled store has the significands of its bounds.
 pub record RowDemands (n k : ℕ) (significands part : List ℕ) (refusal : ℕ) : Type 0 where
-  pub number : refusal ≡ firstGround (rowGrounds n k (length significands))
+  pub number : refusal ≡ firstGround (rowGrounds 64 n k (length significands))
   pub refused : (refusal ≡ 0 → ⊥) → length part ≡ 0
   pub entries : refusal ≡ 0 → length part ≡ k + 1
   pub entry : refusal ≡ 0 → (j : ℕ) → j ≤ k → getD part j 0 ≡ getD significands (k * (k + 1) / 2 + j) 0

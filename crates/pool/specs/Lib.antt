@@ -1,5 +1,5 @@
 pub mod Stores
 pub mod Answers
-pub mod Table
+pub mod Inner
 pub mod Calls
 pub mod Demands

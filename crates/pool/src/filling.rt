@@ -1,10 +1,14 @@
 // Fills the store of chances.
 use super::Pool;
+use grounds::Lengths;
 use kept::Kept;
 use kept::Side;
 use rows::PLACES;
-ghost use Rattle.pool.specs.Stores.{store};
-ghost use Rattle.pool.specs.Table.{Ready, FilledBoth};
+use steps::LARGEST_POOL;
+ghost use Rattle.steps.specs.Inputs.{largestPool};
+ghost use Rattle.grounds.specs.Grounds.{FillAccepted};
+ghost use Rattle.pool.specs.Stores.{store, lengths};
+ghost use Rattle.pool.specs.Inner.{FilledBoth};
 ghost use Rattle.pool.specs.Calls.{Fills};
 
 // Row n of either side.
@@ -21,7 +25,8 @@ pub fn fill_both(
     low_exponents: &mut [i32],
     high_exponents: &mut [i32],
 ) -> LastRows
-    requires { ⌜ Ready pool (store (now «low_significands») (now «high_significands») (now «low_exponents») (now «high_exponents»)) ⌝ }
+    requires { ⌜ FillAccepted largestPool (pool .assets) (pool .probability) (pool .correlation)
+        (lengths (store (now «low_significands») (now «high_significands») (now «low_exponents») (now «high_exponents»))) ⌝ }
     ensures { λ r. ⌜ FilledBoth pool
         (store (now («low_significands» .entry)) (now («high_significands» .entry)) (now («low_exponents» .entry)) (now («high_exponents» .entry)))
         (store (now («low_significands» .exit)) (now («high_significands» .exit)) (now («low_exponents» .exit)) (now («high_exponents» .exit)))
@@ -62,13 +67,16 @@ pub fn fill(
         r ⌝ }
 {
     let refusal = grounds::fill_refusal(
+        LARGEST_POOL,
         pool.assets,
         pool.probability,
         pool.correlation,
-        low_significands.len(),
-        high_significands.len(),
-        low_exponents.len(),
-        high_exponents.len(),
+        Lengths {
+            low_significands: low_significands.len(),
+            high_significands: high_significands.len(),
+            low_exponents: low_exponents.len(),
+            high_exponents: high_exponents.len(),
+        },
     );
     if refusal != 0 {
         return refusal;

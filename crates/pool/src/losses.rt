@@ -5,15 +5,17 @@ use super::Loss;
 use super::Pool;
 use super::Tranche;
 use super::filling::fill_both;
+use grounds::Lengths;
 use kept::Kept;
 use kept::Side;
 use rows::PLACES;
+use steps::LARGEST_POOL;
 ghost use mathlib.Core.Path.{_≡_};
 ghost use Rattle.kept.specs.Rounding.{IsKept};
 ghost use Rattle.steps.specs.Loss.{lossAnswer, raisedToShown};
 ghost use Rattle.pool.specs.Stores.{store};
 ghost use Rattle.pool.specs.Answers.{lossOf, replyOf};
-ghost use Rattle.pool.specs.Table.{TrancheReady, Answerable};
+ghost use Rattle.pool.specs.Inner.{TrancheReady, Answerable};
 ghost use Rattle.pool.specs.Calls.{Wide, lossBound, Replies};
 
 // The bound of the expected loss on one side, from row n of that side.
@@ -79,16 +81,19 @@ pub fn tranche_loss(
         (replyOf r) ⌝ }
 {
     let refusal = grounds::loss_refusal(
+        LARGEST_POOL,
         pool.assets,
         pool.probability,
         pool.correlation,
         pool.recovery,
         tranche.lower,
         tranche.upper,
-        low_significands.len(),
-        high_significands.len(),
-        low_exponents.len(),
-        high_exponents.len(),
+        Lengths {
+            low_significands: low_significands.len(),
+            high_significands: high_significands.len(),
+            low_exponents: low_exponents.len(),
+            high_exponents: high_exponents.len(),
+        },
     );
     if refusal != 0 {
         return Answer::Refused(refusal);

@@ -1,7 +1,9 @@
 // Prints the column of a pool.
 use super::Pool;
 use super::filling::fill_both;
+use grounds::Lengths;
 use kept::Side;
+use steps::LARGEST_POOL;
 ghost use Rattle.pool.specs.Stores.{store};
 ghost use Rattle.pool.specs.Calls.{Prints};
 
@@ -23,13 +25,16 @@ pub fn column(
         r ⌝ }
 {
     let refusal = grounds::column_refusal(
+        LARGEST_POOL,
         pool.assets,
         pool.probability,
         pool.correlation,
-        low_significands.len(),
-        high_significands.len(),
-        low_exponents.len(),
-        high_exponents.len(),
+        Lengths {
+            low_significands: low_significands.len(),
+            high_significands: high_significands.len(),
+            low_exponents: low_exponents.len(),
+            high_exponents: high_exponents.len(),
+        },
         units.len(),
     );
     if refusal != 0 {

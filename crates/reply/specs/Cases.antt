@@ -11,9 +11,10 @@ use Rattle.model.specs.CorrelatedBinomial.{defaults}
 use Rattle.kept.specs.declared.Side.the-variants.{Low}
 use Rattle.steps.specs.Cases.{cases}
 use Rattle.steps.specs.Column.{printedTail, printedRow}
-use Rattle.steps.specs.Pool.{largestPool, keptDefaults}
-use Rattle.steps.specs.Pool.Theorems.{printed}
-use Rattle.grounds.specs.Grounds.{firstGround, poolGrounds, assetsGround, probabilityGround, correlationGround}
+use Rattle.steps.specs.Inputs.{largestPool}
+use Rattle.steps.specs.CorrelatedBinomial.{keptDefaults}
+use Rattle.steps.specs.CorrelatedBinomial.Theorems.{printed}
+use Rattle.grounds.specs.Grounds.{firstOf, firstGround, poolGrounds, assetsGround, probabilityGround, correlationGround}
 use Rattle.text.specs.Ascii.{ascii}
 use Rattle.text.specs.Cases.{line-of-decimals, line-of-three, table-of-three}
 use Rattle.text.specs.Line.{Accepts}
@@ -22,8 +23,8 @@ use Rattle.text.specs.Table.Laws.{column-text}
 use Rattle.reply.specs.declared.Reply.{Reply}
 use Rattle.reply.specs.Reply.{AnswersInput, AnswersStart, Carries}
 
-accepted : firstGround (poolGrounds 3 1000 3000) ≡ 0
-unfolding firstGround poolGrounds assetsGround probabilityGround correlationGround largestPool whole
+accepted : firstGround (poolGrounds largestPool 3 1000 3000) ≡ 0
+unfolding firstGround firstOf poolGrounds assetsGround probabilityGround correlationGround largestPool whole
 accepted = refl
 
 abbrev columnOfThree : List ℕ
@@ -34,7 +35,7 @@ tails = printedTail 3 (keptDefaults Low 3 1000 3000)
 
 past : tails 4 ≡ 0
 unfolding defaults whole largestPool
-past = printed 3 1000 3000 (lit≤ tt) (lit≤ tt) (lit≤ tt) .past
+past = printed {n = 3} {p = 1000} {ρ = 3000} (record { assets = lit≤ tt; probability = lit≤ tt; correlation = lit≤ tt }) .past
 
 same : (k : ℕ) → k ≤ 3 → rowOf columnOfThree k ≡ printedRow 3 (keptDefaults Low 3 1000 3000) k
 same zero l = sym (cases .17)
@@ -58,8 +59,8 @@ reply-of-three answers =
     ∙ table-of-three
 
 -- A pool with no asset is refused by ground 1.
-refusal : firstGround (poolGrounds 0 1000 3000) ≡ 1
-unfolding firstGround poolGrounds assetsGround probabilityGround correlationGround largestPool whole
+refusal : firstGround (poolGrounds largestPool 0 1000 3000) ≡ 1
+unfolding firstGround firstOf poolGrounds assetsGround probabilityGround correlationGround largestPool whole
 refusal = refl
 
 line-of-none : Accepts (ascii "0 1000 3000\n") 0 1000 3000

@@ -1,14 +1,17 @@
 // The answer of the program `column` to its input, whole.
 use pool::Pool;
-use rows::PLACES;
+use steps::LARGEST_POOL;
 use text::line::Line;
 ghost use Rattle.reply.specs.Reply.{Carries, AnswersPool, AnswersInput, AnswersStart};
 
-// The places of the largest pool's store: 2,145, the entries of its 65 rows.
-const STORE: usize = PLACES * (PLACES + 1) / 2;
+// The rows of the largest pool: 65.
+const ROWS: usize = LARGEST_POOL as usize + 1;
+
+// The places of its store: 2,145, the entries of its rows.
+const STORE: usize = ROWS * (ROWS + 1) / 2;
 
 // The bytes of the longest text: 1,125, a header of 20 and 65 lines of at most 17.
-const TEXT: usize = 20 + PLACES * 17;
+const TEXT: usize = 20 + ROWS * 17;
 
 // How many bytes of an input are read. A line has at most 18, so that one byte more decides.
 pub const START: usize = 64;
@@ -27,7 +30,7 @@ fn column_reply(n: u32, p: u32, rho: u32) -> Reply
     let mut high_significands = [0u32; STORE];
     let mut low_exponents = [0i32; STORE];
     let mut high_exponents = [0i32; STORE];
-    let mut units = [0u32; PLACES];
+    let mut units = [0u32; ROWS];
     let refusal = pool::column(
         Pool {
             assets: n,

@@ -12,4 +12,8 @@ unfolding store lent
 returns c = column-meets (c .before .before .before .before .before .before .before .before .column .ensures)
 
 pub column-spec : {M : Type 1} → statement M
-column-spec = tie.close (tie.spec (λ c κs. search needs) (λ c. search needs) (λ c. search needs) (λ c. search needs) (λ c. search needs) (λ c. search needs) returns)
+column-spec =
+    tie.close
+    (tie.spec
+    (λ c κs. search needs) (λ c. search needs) (λ c. search needs) (λ c. search needs) (λ c. search needs) (λ c. search needs)
+    returns)

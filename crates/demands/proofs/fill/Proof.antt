@@ -12,4 +12,5 @@ unfolding store lent
 returns c = fill-meets (c .before .before .before .before .before .before .fill .ensures)
 
 pub fill-spec : {M : Type 1} → statement M
-fill-spec = tie.close (tie.spec (λ c κs. search needs) (λ c. search needs) (λ c. search needs) (λ c. search needs) (λ c. search needs) returns)
+fill-spec =
+    tie.close (tie.spec (λ c κs. search needs) (λ c. search needs) (λ c. search needs) (λ c. search needs) (λ c. search needs) returns)

@@ -12,4 +12,5 @@ unfolding store lent
 returns c = tranche-meets _ (c .before .before .before .before .before .before .tranche-loss .ensures)
 
 pub tranche-loss-spec : {M : Type 1} → statement M
-tranche-loss-spec = tie.close (tie.spec (λ c κs. search needs) (λ c. search needs) (λ c. search needs) (λ c. search needs) (λ c. search needs) returns)
+tranche-loss-spec =
+    tie.close (tie.spec (λ c κs. search needs) (λ c. search needs) (λ c. search needs) (λ c. search needs) (λ c. search needs) returns)

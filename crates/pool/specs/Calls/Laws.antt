@@ -13,17 +13,20 @@ use Rattle.model.specs.Chances.Laws.{tranche-wide}
 use Rattle.model.specs.CorrelatedBinomial.{defaults}
 use Rattle.kept.specs.declared.Side.{Side}
 use Rattle.kept.specs.declared.Side.the-variants.{Low, High}
-use Rattle.steps.specs.Rows.{keptRow}
+use Rattle.kept.specs.Rounding.{nought}
+use Rattle.steps.specs.CorrelatedBinomial.Rows.{keptRow}
 use Rattle.steps.specs.Column.{printedRow}
 use Rattle.steps.specs.Loss.{lossAnswer}
-use Rattle.steps.specs.Pool.{largestPool, keptDefaults, keptPoolLoss}
-use Rattle.steps.specs.Pool.Theorems.{column, enclosure, exponents, answer}
-use Rattle.rows.specs.Store.{tabulate, overwritten, storedSignificands}
-use Rattle.rows.specs.Store.Laws.{length-tabulate, getD-tabulate, stored-significands-length, stored-significand, overwritten-at}
-use Rattle.grounds.specs.Grounds.{PoolAccepted, TrancheAccepted}
+use Rattle.steps.specs.Inputs.{largestPool, InRange, TrancheInRange}
+use Rattle.steps.specs.Inputs.Laws.{working-range}
+use Rattle.steps.specs.CorrelatedBinomial.{keptDefaults}
+use Rattle.steps.specs.CorrelatedBinomial.Theorems.{column, enclosure, exponents, answer}
+use Rattle.rows.specs.Store.{tabulate, overwritten, stored}
+use Rattle.rows.specs.Store.Laws.{length-tabulate, getD-tabulate, overwritten-at, filled-entry}
+use Rattle.grounds.specs.Grounds.{PoolAccepted}
 use Rattle.grounds.specs.Grounds.Laws.{row-accepted}
 use Rattle.pool.specs.Stores.{Store, place, storeAfter}
-use Rattle.pool.specs.Stores.Laws.{place-triangle, row-below, filled-holds}
+use Rattle.pool.specs.Stores.Laws.{place-triangle, filled-holds}
 use Rattle.pool.specs.declared.Pool.{Pool}
 use Rattle.pool.specs.declared.Tranche.{Tranche}
 use Rattle.pool.specs.Calls.{LeavesStore, rowRefusal, partAfter, HandsRow, unitsAfter, HoldsColumn, Wide, lossBound, exactLoss, HoldsLoss}
@@ -32,11 +35,11 @@ use Rattle.pool.specs.Answers.{LossReply, answered}
 -- ---- row
 
 -- Row k lies within a slice that is accepted.
-pub row-within : (n k : ℕ) (significands : List ℕ) → rowRefusal n k significands ≡ 0 → (k ≤ largestPool) × (place k 0 + (k + 1) ≤ length significands)
+pub row-within : (n k : ℕ) (significands : List ℕ) → rowRefusal n k significands ≡ 0 → place k 0 + (k + 1) ≤ length significands
 unfolding triangle rowRefusal
 row-within n k significands accepts =
-    let accepted = row-accepted n k (length significands) accepts in
-    (omega (arith, accepted .row, accepted .assets .most), rw (place-triangle k 0) (omega (arith, triangle-mono (accepted .row), accepted .store)))
+    let accepted = row-accepted largestPool n k (length significands) refl accepts in
+    rw (place-triangle k 0) (omega (arith, triangle-mono (accepted .row), accepted .store))
 
 module _ (n k : ℕ) (significands : List ℕ) {refusal : ℕ} (is : refusal ≡ rowRefusal n k significands) where
   pub part-refused : (refusal ≡ 0 → ⊥) → [] ≡ partAfter (rowRefusal n k significands) k significands
@@ -47,38 +50,37 @@ module _ (n k : ℕ) (significands : List ℕ) {refusal : ℕ} (is : refusal ≡
       by-number zero not = absurd (not refl)
       by-number (suc r) not = refl
 
-  pub part-accepted : refusal ≡ 0 → take (k + 1) (drop (place k 0) significands) ≡ partAfter (rowRefusal n k significands) k significands
+  pub part-accepted : refusal ≡ 0 → (count start : ℕ) → count ≡ k + 1 → start ≡ place k 0
+      → take count (drop start significands) ≡ partAfter (rowRefusal n k significands) k significands
   unfolding partAfter
-  part-accepted none = rw (sym is ∙ none) refl
+  part-accepted none count start count-is start-is = rw (sym is ∙ none, count-is, start-is) refl
 
 module _ (n k : ℕ) (significands : List ℕ) {part : List ℕ} (is : part ≡ partAfter (rowRefusal n k significands) k significands) where
   module _ (accepts : rowRefusal n k significands ≡ 0) where
     part-is-row : part ≡ take (k + 1) (drop (place k 0) significands)
-    part-is-row = is ∙ sym (part-accepted n k significands refl accepts)
+    part-is-row = is ∙ sym (part-accepted n k significands refl accepts _ _ refl refl)
 
     part-length : length part ≡ k + 1
-    part-length = rw (part-is-row, length-take, length-drop) (omega (arith, row-within n k significands accepts .1))
+    part-length = rw (part-is-row, length-take, length-drop) (omega (arith, row-within n k significands accepts))
 
     part-entry : (j : ℕ) → j ≤ k → getD part j 0 ≡ getD significands (place k j) 0
     part-entry j l =
         let low : j < k + 1 = omega arith in
         rw (part-is-row, getD-take, getD-drop, place-triangle k 0, add-zero (triangle k), ← place-triangle k j) refl
 
-    part-filled : (side : Side) (p ρ m : ℕ) (old : List ℕ) → n ≤ m → significands ≡ overwritten (storedSignificands side p ρ m) old
+    part-filled : (side : Side) (p ρ m : ℕ) (old : List ℕ) → n ≤ m → significands ≡ overwritten (stored side p ρ (λ x. x .significand) m) old
         → part ≡ tabulate (suc k) (λ j. keptRow side p ρ k j .significand)
-    unfolding rowRefusal
+    unfolding rowRefusal nought
     part-filled side p ρ m old more filled =
-        let accepted = row-accepted n k (length significands) accepts in
+        let accepted = row-accepted largestPool n k (length significands) refl accepts in
         ext-getD 0 part (tabulate (suc k) (λ j. keptRow side p ρ k j .significand)) (part-length ∙ rw length-tabulate (omega arith)) (λ j l.
         let low : j ≤ k = omega (arith, part-length) in
         let to-m : k ≤ m = omega (arith, accepted .row) in
-        let within : triangle k + j < triangle (suc m) = row-below low to-m in
         rw (
           part-entry j low,
           place-triangle k j,
           filled,
-          overwritten-at (storedSignificands side p ρ m) old (triangle k + j) 0 (rw (stored-significands-length side p ρ m) within),
-          stored-significand side p ρ m low to-m,
+          filled-entry side p ρ (λ x. x .significand) m old low to-m,
           getD-tabulate (suc k) (λ i. keptRow side p ρ k i .significand) j 0 (omega arith),
         ) refl)
 
@@ -102,20 +104,13 @@ module _ {pool : Pool} {before after : Store} where
   store-untouched zero some same = absurd (some refl)
   store-untouched (suc r) some same = record { store-is = same; holds = λ none. absurd (some none); steps-hold = λ none. absurd (some none) }
 
-  pub store-filled : PoolAccepted (pool .assets) (pool .probability) (pool .correlation)
+  pub store-filled : InRange largestPool (pool .assets) (pool .probability) (pool .correlation)
       → after ≡ storeAfter (pool .assets) (pool .probability) (pool .correlation) 0 before → LeavesStore pool before after 0
-  store-filled accepted is =
-      let n = pool .assets in
-      let p = pool .probability in
-      let ρ = pool .correlation in
-      record {
-        store-is = is;
-        holds = λ _. rw is (filled-holds n p ρ before accepted);
-        steps-hold = λ _. record {
-          enclosed = enclosure n p ρ (accepted .probability) (accepted .correlation) (accepted .assets .most);
-          ranged = exponents n p ρ (accepted .probability) (accepted .correlation) (accepted .assets .most);
-        };
-      }
+  store-filled range is = record {
+    store-is = is;
+    holds = λ _. rw is (filled-holds before range);
+    steps-hold = λ _. record { enclosed = enclosure range; ranged = exponents (working-range range) };
+  }
 
 -- ---- column
 
@@ -124,7 +119,7 @@ unfolding unitsAfter
 units-untouched n p ρ zero some = absurd (some refl)
 units-untouched n p ρ (suc r) some = refl
 
-module _ (n p ρ : ℕ) (accepted : PoolAccepted n p ρ) (units : List ℕ) {units′ : List ℕ} (is : units′ ≡ unitsAfter n p ρ 0 units) where
+module _ {n p ρ : ℕ} (range : InRange largestPool n p ρ) (units : List ℕ) {units′ : List ℕ} (is : units′ ≡ unitsAfter n p ρ 0 units) where
   row-printed : {k : ℕ} → k ≤ n → getD units′ k 0 ≡ printedRow n (keptDefaults Low n p ρ) k
   unfolding unitsAfter
   row-printed {k} l =
@@ -136,7 +131,7 @@ module _ (n p ρ : ℕ) (accepted : PoolAccepted n p ρ) (units : List ℕ) {uni
   pub column-holds : HoldsColumn n p ρ units′
   unfolding defaults
   column-holds =
-      let prints = column n p ρ (accepted .probability) (accepted .correlation) (accepted .assets .most) in
+      let prints = column range in
       record {
         total = sum-cong (suc n) (λ k l. row-printed (omega arith)) ∙ prints .total;
         difference = λ k l. rw (row-printed l) (prints .difference k);
@@ -146,29 +141,19 @@ module _ (n p ρ : ℕ) (accepted : PoolAccepted n p ρ) (units : List ℕ) {uni
 
 -- ---- loss
 
-module _ (pool : Pool) (tranche : Tranche) (accepted : PoolAccepted (pool .assets) (pool .probability) (pool .correlation))
-    (attachments : TrancheAccepted (pool .recovery) (tranche .lower) (tranche .upper)) where
+module _ (pool : Pool) (tranche : Tranche) (accepted : PoolAccepted largestPool (pool .assets) (pool .probability) (pool .correlation))
+    (attachments : TrancheInRange (pool .recovery) (tranche .lower) (tranche .upper)) where
   pub loss-wide : Wide pool tranche
   unfolding Wide
-  loss-wide = tranche-wide (accepted .assets .some) (attachments .attachments)
+  loss-wide = tranche-wide (accepted .not-empty) (attachments .lower)
 
   pub loss-holds : {reply : LossReply} (wide : Wide pool tranche)
       → reply ≡ answered (lossAnswer (lossBound pool tranche Low wide) (lossBound pool tranche High wide)) → HoldsLoss pool tranche wide reply
   unfolding Wide lossBound exactLoss
-  loss-holds wide is =
-      let n = pool .assets in
-      let p = pool .probability in
-      let ρ = pool .correlation in
-      let R = pool .recovery in
-      let A = tranche .lower in
-      let B = tranche .upper in
-      let p≤1 = accepted .probability in
-      let ρ≤1 = accepted .correlation in
-      let n≤64 = accepted .assets .most in
-      record {
-        answer-is = is;
-        enclosed = enclosure n p ρ p≤1 ρ≤1 n≤64 .losses R A B (attachments .upper) wide;
-        says = λ loss given.
-            let same : lossAnswer (keptPoolLoss Low n p ρ R A B wide) (keptPoolLoss High n p ρ R A B wide) ≡ loss = cc in
-            rw same at (answer n p ρ p≤1 ρ≤1 n≤64 R A B (attachments .upper) wide);
-      }
+  loss-holds wide is = record {
+    answer-is = is;
+    enclosed = enclosure (accepted .range) .losses _ _ _ (attachments .upper) wide;
+    says = λ loss given.
+        let same : lossAnswer (lossBound pool tranche Low wide) (lossBound pool tranche High wide) ≡ loss = cc in
+        rw same at (answer (accepted .range) (pool .recovery) (tranche .lower) (tranche .upper) (attachments .upper) wide);
+  }

@@ -19,14 +19,15 @@ use Rattle.kept.specs.declared.Side.{Side}
 use Rattle.kept.specs.declared.Side.the-variants.{Low, High}
 use Rattle.kept.specs.Rounding.{value}
 use Rattle.kept.specs.Binary64.{leastShown}
-use Rattle.steps.specs.Rows.{keptRow}
+use Rattle.steps.specs.CorrelatedBinomial.Rows.{keptRow}
 use Rattle.steps.specs.Column.{unitsOfCertainty, exactUnits, tenths, printedRow}
 use Rattle.steps.specs.Enclosure.{Enclosed}
 use Rattle.steps.specs.Loss.{raisedToShown, Says}
 use Rattle.steps.specs.Loss.Laws.{raised-greater, least-shown-value}
-use Rattle.steps.specs.Pool.{keptDefaults}
-use Rattle.rows.specs.Store.{tabulate, overwritten, storedSignificands, storedExponents}
-use Rattle.rows.specs.Store.Laws.{length-tabulate, stored-significands-length, stored-exponents-length}
+use Rattle.steps.specs.CorrelatedBinomial.{keptDefaults}
+use Rattle.steps.specs.Inputs.{largestPool}
+use Rattle.rows.specs.Store.{filledSide, tabulate, overwritten, stored}
+use Rattle.rows.specs.Store.Laws.{length-tabulate, stored-length}
 use Rattle.grounds.specs.Grounds.Laws.{row-accepted}
 use Rattle.pool.specs.declared.Pool.{Pool}
 use Rattle.pool.specs.declared.Tranche.{Tranche}
@@ -34,7 +35,7 @@ use Rattle.pool.specs.declared.Loss.{Loss}
 use Rattle.pool.specs.declared.Loss.the-variants.{Untouched, Faint, Shown}
 use Rattle.pool.specs.declared.Answer.{Answer}
 use Rattle.pool.specs.declared.Answer.the-variants.{Refused, Answered}
-use Rattle.pool.specs.Stores.{Store, lengths, half, numberAt, place, filledHalf, storeAfter}
+use Rattle.pool.specs.Stores.{Store, lengths, sideOf, numberAt, place, storeAfter}
 use Rattle.pool.specs.Answers.{lossOf, replyOf, refusalOf}
 use Rattle.pool.specs.Calls.{LeavesStore, Fills, fillRefusal, HandsRow, rowRefusal, columnRefusal, unitsAfter, HoldsColumn, Prints, lossRefusal, Wide, lossBound, exactLoss, HoldsLoss, Replies}
 use Rattle.pool.specs.Demands.{BoundDemands, oneAndAHalf, Demand3Column, Slices, significandsOn, numberOn, from, TableDemands, edge, LossDemands, AnswerDemands, refusalIn}
@@ -61,6 +62,14 @@ later-kept : {A : Type 0} (new old : List A) {m : ℕ} → length new ≡ m → 
 unfolding overwritten
 later-kept new old is = rw (← is) (drop-append-seam new (drop (length new) old))
 
+-- What stands behind rows 0 to n in a slice that was filled.
+later-filled : {A : Type 0} (side : Side) (n p ρ : ℕ) (field : Kept → A) (old : List A)
+    → drop ((n + 1) * (n + 2) / 2) (overwritten (stored side p ρ field n) old) ≡ drop ((n + 1) * (n + 2) / 2) old
+unfolding triangle
+later-filled side n p ρ field old =
+    let places : length (stored side p ρ field n) ≡ (n + 1) * (n + 2) / 2 = omega (arith, stored-length side p ρ field n, triangle-closed (suc n)) in
+    later-kept (stored side p ρ field n) old places
+
 module _ {pool : Pool} {before after : Store} {refusal : ℕ} (leaves : LeavesStore pool before after refusal) where
   -- A refused call leaves the store as it was.
   store-kept : (refusal ≡ 0 → ⊥) → after ≡ before
@@ -74,7 +83,7 @@ module _ {pool : Pool} {before after : Store} {refusal : ℕ} (leaves : LeavesSt
   module _ (none : refusal ≡ 0) where
     made-on : (side : Side) (j k : ℕ) → j ≤ k → k ≤ pool .assets
         → numberOn side (slices after) (k * (k + 1) / 2 + j) ≡ keptRow side (pool .probability) (pool .correlation) k j
-    unfolding half numberAt place
+    unfolding sideOf numberAt place
     made-on Low = leaves .holds none .made Low
     made-on High = leaves .holds none .made High
 
@@ -91,23 +100,13 @@ module _ {pool : Pool} {before after : Store} {refusal : ℕ} (leaves : LeavesSt
         }
 
     later-meets : let places = (pool .assets + 1) * (pool .assets + 2) / 2 in from places (slices after) ≡ from places (slices before)
-    unfolding storeAfter filledHalf triangle
+    unfolding storeAfter filledSide
     later-meets =
-        let n = pool .assets in
-        let p = pool .probability in
-        let ρ = pool .correlation in
-        let is : after ≡ storeAfter n p ρ 0 before = rw none at (leaves .store-is) in
-        let places : triangle (suc n) ≡ (n + 1) * (n + 2) / 2 = omega (arith, triangle-closed (suc n)) in
-        rw (
-          is,
-          later-kept (storedSignificands Low p ρ n) (before .low .significands) (stored-significands-length Low p ρ n ∙ places),
-          later-kept (storedSignificands High p ρ n) (before .high .significands) (stored-significands-length High p ρ n ∙ places),
-          later-kept (storedExponents Low p ρ n) (before .low .exponents) (stored-exponents-length Low p ρ n ∙ places),
-          later-kept (storedExponents High p ρ n) (before .high .exponents) (stored-exponents-length High p ρ n ∙ places),
-        ) refl
+        let is : after ≡ storeAfter (pool .assets) (pool .probability) (pool .correlation) 0 before = rw none at (leaves .store-is) in
+        rw is (simp later-filled refl)
 
 pub fill-meets : {pool : Pool} {before after : Store} {refusal : ℕ} → Fills pool before after refusal → FillDemands pool (slices before) (slices after) refusal
-unfolding fillRefusal lengths
+unfolding fillRefusal lengths largestPool
 fill-meets fills =
     let leaves = fills .leaves in
     record { one = record { number = fills .refusal-is; untouched = λ some. ap slices (store-kept leaves some) }; table = table-meets leaves; later = later-meets leaves }
@@ -120,14 +119,14 @@ significand-on High s i = refl
 
 pub row-meets : {n k : ℕ} {significands part : List ℕ} {refusal : ℕ} → HandsRow n k significands part → refusal ≡ rowRefusal n k significands
     → RowDemands n k significands part refusal
-unfolding rowRefusal place
+unfolding rowRefusal place largestPool
 row-meets {n} {k} {significands} hands is = record {
   number = is;
   refused = λ some. hands .refused-empty (λ none. some (is ∙ none));
   entries = λ none. hands .accepted-length (sym is ∙ none);
   entry = λ none. hands .entries (sym is ∙ none);
   of-filled = λ none pool s filled more side same j l.
-      let row : k ≤ n = row-accepted n k (length significands) (sym is ∙ none) .row in
+      let row : k ≤ n = row-accepted largestPool n k (length significands) is none .row in
       hands .entries (sym is ∙ none) j l
       ∙ rw same (significand-on side s (k * (k + 1) / 2 + j) ∙ ap (λ x. x .significand) (filled .made side j k l (omega arith)));
 }
@@ -164,7 +163,7 @@ module _ (n p ρ : ℕ) (units : List ℕ) {units′ : List ℕ} where
 
 pub column-meets : {pool : Pool} {before after : Store} {units units′ : List ℕ} {refusal : ℕ} → Prints pool before after units units′ refusal
     → ColumnDemands pool (slices before) (slices after) units units′ refusal
-unfolding columnRefusal lengths
+unfolding columnRefusal lengths largestPool
 column-meets prints =
     let leaves = prints .leaves in
     record {
@@ -221,7 +220,7 @@ number-is (Answered loss) = refl
 
 pub tranche-meets : {pool : Pool} {tranche : Tranche} {before after : Store} (answer : Answer) → Replies pool tranche before after (replyOf answer)
     → TrancheDemands pool tranche (slices before) (slices after) answer
-unfolding lossRefusal Wide lossBound exactLoss lengths
+unfolding lossRefusal Wide lossBound exactLoss lengths largestPool
 tranche-meets answer replies =
     let is = number-is answer ∙ replies .refusal-is in
     let leaves = rw (← is) at (replies .leaves) in

@@ -28,6 +28,5 @@ reply-to-start-spec =
     slice-aggregate-reply-to
     (λ c κs. search needs)
     returns
-    (λ c. search needs)
-    (λ c κs. search needs)
+    (λ c. search needs) (λ c κs. search needs)
     returns-2)

@@ -10,7 +10,7 @@ use lib.ListN.{length, take, drop, length-append, length-take}
 use lib.Seq.{take-all, take-at}
 use Rattle.model.specs.Number.{triangle}
 use Rattle.steps.specs.Column.{printedRow}
-use Rattle.steps.specs.Pool.{largestPool}
+use Rattle.steps.specs.Inputs.{largestPool}
 use Rattle.grounds.specs.Grounds.{firstGround, poolGrounds, EachAtLeast}
 use Rattle.grounds.specs.Grounds.Laws.{column-refused-as-pool}
 use Rattle.pool.specs.declared.Pool.{Pool}
@@ -37,15 +37,15 @@ carried {Answers} {text} {before} {reply} written answers =
 -- With slices that have room for the largest pool, the refusal of a column call is that of its pool.
 pub refused-as-pool : {pool : Pool} {before after : Store} {units units′ : List ℕ} {refusal : ℕ} → Prints pool before after units units′ refusal
     → EachAtLeast (triangle (suc largestPool)) (lengths before) → largestPool < length units
-    → refusal ≡ firstGround (poolGrounds (pool .assets) (pool .probability) (pool .correlation))
+    → refusal ≡ firstGround (poolGrounds largestPool (pool .assets) (pool .probability) (pool .correlation))
 unfolding columnRefusal
-refused-as-pool prints store column = prints .refusal-is ∙ column-refused-as-pool _ _ _ _ _ store column
+refused-as-pool prints store column = prints .refusal-is ∙ column-refused-as-pool _ _ _ _ _ _ store column
 
 module _ {n p ρ : ℕ} where
-  pub refused-answer : {refusal : ℕ} → refusal ≡ firstGround (poolGrounds n p ρ) → (refusal ≡ 0 → ⊥) → AnswersPool n p ρ (refusedText refusal)
+  pub refused-answer : {refusal : ℕ} → refusal ≡ firstGround (poolGrounds largestPool n p ρ) → (refusal ≡ 0 → ⊥) → AnswersPool n p ρ (refusedText refusal)
   refused-answer is some = record { refused = λ _. ap refusedText is; table = λ none. absurd (some (is ∙ none)) }
 
-  pub table-answer : {units : List ℕ} → firstGround (poolGrounds n p ρ) ≡ 0 → HoldsColumn n p ρ units → AnswersPool n p ρ (columnText n units)
+  pub table-answer : {units : List ℕ} → firstGround (poolGrounds largestPool n p ρ) ≡ 0 → HoldsColumn n p ρ units → AnswersPool n p ρ (columnText n units)
   unfolding printedRow
   table-answer {units} none holds = record {
     refused = λ some. absurd (some none);

@@ -3,40 +3,46 @@
 use mathlib.Core.Path.{_≡_, refl, sym, _∙_}
 use borrow.Author.Needs.{needs}
 use native.Mathlib.Omega.{arith}
+use Rattle.grounds.specs.Grounds.{fourLengths}
 use Rattle.grounds.specs.Grounds.Laws.{fill-accepted}
+use Rattle.steps.specs.Inputs.{largestPool}
 use Rattle.pool.specs.Stores.{store, lengths}
 use Rattle.pool.specs.Calls.{fillRefusal}
 use Rattle.pool.specs.Calls.Laws.{store-untouched, store-filled}
 use Rattle.pool.proofs.filling.fill.Statement.{statement}
 use Rattle.pool.proofs.filling.fill.Tie as tie
 
--- Some ground applies.
-some : (c : tie.Then1) → c .before .fill-refusal .result ≡ 0 → ⊥
-some c none = omega arith
+-- Where the call goes on, no ground applies.
+goes-on : (c : tie.Else1) → c .before .fill-refusal .result ≡ 0
+goes-on c = omega arith
 
--- None does.
-none : (c : tie.Else1) → c .before .fill-refusal .result ≡ 0
-none c = omega arith
-
-returns : tie.Need-returns
-unfolding fillRefusal lengths store
-returns c = record { refusal-is = c .before .fill-refusal .ensures; leaves = store-untouched (c .before .fill-refusal .result) (some c) refl }
+refused : tie.Need-returns
+unfolding fillRefusal lengths store fourLengths largestPool
+refused c = record { refusal-is = c .before .fill-refusal .ensures; leaves = store-untouched (c .before .fill-refusal .result) (λ none. omega arith) refl }
 
 fill-both-requires : tie.Need-fill-both-requires
-unfolding lengths store
+unfolding lengths store fourLengths largestPool
 fill-both-requires c κs =
-    let else1 = c .before .before .before .before in
-    record { accepted = fill-accepted _ _ _ _ (sym (else1 .before .fill-refusal .ensures) ∙ none else1) }
+    let accepted = c .before .before .before .before in
+    fill-accepted _ _ _ _ _ (accepted .before .fill-refusal .ensures) (goes-on accepted)
 
-returns-2 : tie.Need-returns-2
-unfolding fillRefusal lengths store
-returns-2 c =
+filled : tie.Need-returns-2
+unfolding fillRefusal lengths store fourLengths largestPool
+filled c =
     let filled = c .before .before .before .before .before .before in
-    let else1 = filled .before .before .before .before .before in
-    let refusal = sym (none else1) ∙ else1 .before .fill-refusal .ensures in
-    record { refusal-is = refusal; leaves = store-filled (fill-accepted _ _ _ _ (sym refusal) .pool) (filled .fill-both .ensures .store-is) }
+    let accepted = filled .before .before .before .before .before in
+    let refusal = accepted .before .fill-refusal .ensures in
+    record {
+      refusal-is = sym (goes-on accepted) ∙ refusal;
+      leaves = store-filled (fill-accepted _ _ _ _ _ refusal (goes-on accepted) .pool .range) (filled .fill-both .ensures .store-is);
+    }
 
 pub fill-spec : {M : Type 1} → statement M
 fill-spec =
     tie.close
-    (tie.spec (λ c κs. search needs) returns fill-both-requires (λ c. search needs) (λ c. search needs) (λ c. search needs) (λ c. search needs) returns-2)
+    (tie.spec
+    (λ c κs. search needs)
+    refused
+    fill-both-requires
+    (λ c. search needs) (λ c. search needs) (λ c. search needs) (λ c. search needs)
+    filled)

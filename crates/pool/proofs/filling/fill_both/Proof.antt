@@ -3,30 +3,31 @@
 use mathlib.Core.Path.{refl}
 use borrow.Author.Needs.{needs}
 use Rattle.kept.specs.declared.Side.the-variants.{Low, High}
-use Rattle.pool.specs.Stores.{store, half, filledHalf, storeAfter}
-use Rattle.pool.specs.Table.Laws.{fillable}
+use Rattle.pool.specs.Stores.{store, sideOf, storeAfter}
+use Rattle.pool.specs.Inner.Laws.{fillable}
 use Rattle.pool.proofs.filling.fill_both.Statement.{statement}
 use Rattle.pool.proofs.filling.fill_both.Tie as tie
 
 fill-side-requires : tie.Need-fill-side-requires
-unfolding store half
-fill-side-requires c κs = fillable Low (c .before .before .before .before .pre)
+unfolding store sideOf
+fill-side-requires c κs = fillable Low _ (c .before .before .before .before .pre)
 
 fill-side-requires-2 : tie.Need-fill-side-requires-2
-unfolding store half
-fill-side-requires-2 c κs = fillable High (c .before .before .before .before .before .before .before .before .before .before .pre)
+unfolding store sideOf
+fill-side-requires-2 c κs = fillable High _ (c .before .before .before .before .before .before .before .before .before .before .pre)
 
 returns : tie.Need-returns
-unfolding store storeAfter filledHalf
+unfolding store storeAfter
 returns c =
     let low = c .before .before .before .before .before .before .before .before .before .fill-side .ensures in
     let high = c .before .before .before .fill-side2 .ensures in
-    record {
-      store-is = rw (low .significands, low .exponents, high .significands, high .exponents) refl;
-      low-row = low .last;
-      high-row = high .last;
-    }
+    record { store-is = rw (low .store-is, high .store-is) refl; low-row = low .last; high-row = high .last }
 
 pub fill-both-spec : {M : Type 1} → statement M
 fill-both-spec =
-    tie.close (tie.spec fill-side-requires fill-side-requires-2 (λ c. search needs) (λ c. search needs) (λ c. search needs) (λ c. search needs) returns)
+    tie.close
+    (tie.spec
+    fill-side-requires
+    fill-side-requires-2
+    (λ c. search needs) (λ c. search needs) (λ c. search needs) (λ c. search needs)
+    returns)

@@ -15,9 +15,8 @@ use Rattle.pool.specs.Answers.{lossOf}
 use Rattle.pool.proofs.losses.loss_answer.Statement.{statement}
 use Rattle.pool.proofs.losses.loss_answer.Tie as tie
 
--- The high bound is zero.
-none : (c : tie.Then1) → c .before .before .args .high .significand ≡ 0
-none c = c .if1 .taken
+high-zero : (c : tie.Then1) → c .before .before .args .high .significand ≡ 0
+high-zero c = c .if1 .taken
 
 -- The low bound is 2^−800 or more.
 shows : (c : tie.Else2) → belowShown (c .before .before .before .before .args .low) ≡ false
@@ -28,7 +27,7 @@ least c = below-shown-no (c .before .before .before .before .args .low) (shows c
 
 returns : tie.Need-returns
 unfolding lossAnswer lossOf
-returns c = rw (eq-eqb _ _ (none c)) refl
+returns c = rw (eq-eqb _ _ (high-zero c)) refl
 
 to-f64-requires : tie.Need-to-f64-requires
 to-f64-requires c κs =
@@ -60,4 +59,11 @@ returns-3 c =
 pub loss-answer-spec : {M : Type 1} → statement M
 loss-answer-spec =
     tie.close
-    (tie.spec returns (λ c κs. search needs) (λ c κs. search needs) to-f64-requires returns-2 to-f64-requires-2 to-f64-requires-3 returns-3)
+    (tie.spec
+    returns
+    (λ c κs. search needs) (λ c κs. search needs)
+    to-f64-requires
+    returns-2
+    to-f64-requires-2
+    to-f64-requires-3
+    returns-3)

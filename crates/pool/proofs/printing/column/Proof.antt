@@ -5,78 +5,60 @@ use borrow.Author.Needs.{needs}
 use native.Mathlib.Omega.{arith}
 use lib.ListN.{length}
 use Rattle.kept.specs.declared.Side.the-variants.{Low}
-use Rattle.grounds.specs.Grounds.{ColumnAccepted}
+use Rattle.steps.specs.Inputs.{largestPool}
+use Rattle.grounds.specs.Grounds.{fourLengths, ColumnAccepted}
 use Rattle.grounds.specs.Grounds.Laws.{column-accepted}
-use Rattle.pool.specs.Stores.{Store, store, lengths}
+use Rattle.pool.specs.Stores.{store, lengths}
 use Rattle.pool.specs.Calls.{columnRefusal, unitsAfter}
 use Rattle.pool.specs.Calls.Laws.{store-untouched, store-filled, units-untouched, column-holds}
-use Rattle.pool.specs.Table.Laws.{chances-ready, chances-made, tails-ready}
+use Rattle.pool.specs.Inner.Laws.{chances-ready, chances-made, tails-ready}
 use Rattle.pool.proofs.printing.column.Statement.{statement}
 use Rattle.pool.proofs.printing.column.Tie as tie
 
--- The store at entry.
-abbrev entry : tie.Start → Store
-entry c = store (c .args .low-significands .now) (c .args .high-significands .now) (c .args .low-exponents .now) (c .args .high-exponents .now)
+-- Where the call goes on, no ground applies.
+goes-on : (c : tie.Else1) → c .before .column-refusal .result ≡ 0
+goes-on c = omega arith
 
--- Some ground applies.
-some : (c : tie.Then1) → c .before .column-refusal .result ≡ 0 → ⊥
-some c none = omega arith
+accepted : (c : tie.Else1) → let args = c .before .before .before .before .before .args in
+    ColumnAccepted largestPool (args .pool .assets) (args .pool .probability) (args .pool .correlation)
+    (lengths (store (args .low-significands .now) (args .high-significands .now) (args .low-exponents .now) (args .high-exponents .now))) (length (args .units .now))
+unfolding lengths store fourLengths largestPool
+accepted c = column-accepted _ _ _ _ _ _ (c .before .column-refusal .ensures) (goes-on c)
 
-left : (c : tie.Else1) → c .before .column-refusal .result ≡ 0
-left c = omega arith
-
--- None does.
-none : (c : tie.Else1) → columnRefusal (c .before .before .before .before .before .args .pool) (entry (c .before .before .before .before .before)) (c .before .before .before .before .before .args .units .now) ≡ 0
-unfolding columnRefusal lengths store
-none c = sym (c .before .column-refusal .ensures) ∙ left c
-
-abbrev Accepted : tie.Start → Type 0
-Accepted c =
-    ColumnAccepted (c .args .pool .assets) (c .args .pool .probability) (c .args .pool .correlation) (lengths (entry c)) (length (c .args .units .now))
-
-accepted : (c : tie.Else1) → Accepted (c .before .before .before .before .before)
-unfolding columnRefusal
-accepted c = column-accepted _ _ _ _ _ (none c)
-
-returns : tie.Need-returns
-unfolding columnRefusal lengths store
-returns c =
-    let refusal = c .before .column-refusal in
-    record {
-      refusal-is = refusal .ensures;
-      leaves = store-untouched (refusal .result) (some c) refl;
-      units-are = units-untouched _ _ _ (refusal .result) (some c);
-      holds-column = λ none. absurd (some c none);
-    }
-
-fill-both-requires : tie.Need-fill-both-requires
-unfolding lengths store
-fill-both-requires c κs = record { accepted = accepted (c .before .before .before .before) .fill }
+refused : tie.Need-returns
+unfolding columnRefusal lengths store fourLengths largestPool
+refused c = record {
+  refusal-is = c .before .column-refusal .ensures;
+  leaves = store-untouched (c .before .column-refusal .result) (λ none. omega arith) refl;
+  units-are = units-untouched _ _ _ (c .before .column-refusal .result) (λ none. omega arith);
+  holds-column = λ none. absurd (omega arith);
+}
 
 chances-requires : tie.Need-chances-requires
 chances-requires c κs =
     let filled = c .before .before .before .before .before .before .before in
-    chances-ready _ _ _ (accepted (filled .before .before .before .before .before) .fill .pool) Low (filled .fill-both .ensures .low-row)
+    chances-ready (accepted (filled .before .before .before .before .before) .fill .pool .range) Low (filled .fill-both .ensures .low-row)
 
 print-rows-requires : tie.Need-print-rows-requires
 print-rows-requires c κs =
     let filled = c .before .before .before .before .before .before .before .before .before in
-    let ok = accepted (filled .before .before .before .before .before) in
-    (tails-ready _ _ _ (ok .fill .pool) (chances-made _ _ _ (ok .fill .pool) Low (filled .fill-both .ensures .low-row) (c .before .chances .ensures)), ok .column)
+    let given = accepted (filled .before .before .before .before .before) in
+    let range = given .fill .pool .range in
+    (tails-ready range (chances-made range Low (filled .fill-both .ensures .low-row) (c .before .chances .ensures)), given .column)
 
-returns-2 : tie.Need-returns-2
-unfolding unitsAfter
-returns-2 c =
-    let given = c .before .before .before .before in
-    let filled = given .before .before .before .before .before .before .before .before in
+printed : tie.Need-returns-2
+unfolding columnRefusal lengths store fourLengths largestPool unitsAfter
+printed c =
+    let chances = c .before .before .before .before in
+    let filled = chances .before .before .before .before .before .before .before .before in
     let else1 = filled .before .before .before .before .before in
-    let pool = accepted else1 .fill .pool in
-    let printed = c .before .before .print-rows .ensures .rows _ (chances-made _ _ _ pool Low (filled .fill-both .ensures .low-row) (given .chances .ensures)) in
+    let range = accepted else1 .fill .pool .range in
+    let rows = c .before .before .print-rows .ensures .rows _ (chances-made range Low (filled .fill-both .ensures .low-row) (chances .chances .ensures)) in
     record {
-      refusal-is = sym (none else1);
-      leaves = store-filled pool (filled .fill-both .ensures .store-is);
-      units-are = printed;
-      holds-column = λ _. column-holds _ _ _ pool _ printed;
+      refusal-is = sym (goes-on else1) ∙ else1 .before .column-refusal .ensures;
+      leaves = store-filled range (filled .fill-both .ensures .store-is);
+      units-are = rows;
+      holds-column = λ _. column-holds range _ rows;
     }
 
 pub column-spec : {M : Type 1} → statement M
@@ -84,13 +66,9 @@ column-spec =
     tie.close
     (tie.spec
     (λ c κs. search needs)
-    returns
-    fill-both-requires
+    refused
+    (λ c κs. accepted (c .before .before .before .before) .fill)
     chances-requires
     print-rows-requires
-    (λ c. search needs)
-    (λ c. search needs)
-    (λ c. search needs)
-    (λ c. search needs)
-    (λ c. search needs)
-    returns-2)
+    (λ c. search needs) (λ c. search needs) (λ c. search needs) (λ c. search needs) (λ c. search needs)
+    printed)
