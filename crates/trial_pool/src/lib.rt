@@ -1,0 +1,338 @@
+// Runs a call on lent slices and prints a line: what it was given, the refusal or the answer, and a checksum of each array. The
+// slices are the first places of the arrays, so that a write behind them is seen.
+use pool::Answer;
+use pool::Loss;
+use pool::Pool;
+use pool::Tranche;
+use trial_support::write;
+use trial_support::write_bits;
+use trial_support::write_checksum;
+use trial_support::write_field;
+use trial_support::write_number;
+
+const PLACES: usize = 2_150;
+
+pub const ROWS: usize = 70;
+
+// What every place holds at first.
+const MARK: u32 = 1_000_000_007;
+
+const EXPONENT_MARK: i32 = 1_000_007;
+
+// How many places are lent: of the low and the high significands, then of the low and the high exponents.
+pub struct Lengths(pub usize, pub usize, pub usize, pub usize);
+
+// A call on a store, with what it takes beside it: the number of a row, how many rows are lent, a tranche.
+pub enum Call {
+    Fill,
+    Row(u32),
+    Column(usize),
+    Loss(Tranche),
+}
+
+// A pool for the calls that take no recovery.
+pub fn pool_of(assets: u32, probability: u32, correlation: u32) -> Pool {
+    Pool {
+        assets,
+        probability,
+        correlation,
+        recovery: 0,
+    }
+}
+
+fn write_length(n: usize) {
+    write(b" ");
+    write_number(n as u64);
+}
+
+fn write_pool(pool: Pool) {
+    write_field(pool.assets);
+    write_field(pool.probability);
+    write_field(pool.correlation);
+}
+
+fn write_tranche(tranche: Tranche) {
+    write(b" tranche");
+    write_field(tranche.lower);
+    write_field(tranche.upper);
+}
+
+fn write_call(call: Call, pool: Pool) {
+    match call {
+        Call::Fill => {
+            write(b"fill");
+            write_pool(pool);
+        }
+        Call::Row(k) => {
+            write(b"row");
+            write_field(k);
+        }
+        Call::Column(_) => {
+            write(b"column");
+            write_pool(pool);
+        }
+        Call::Loss(tranche) => {
+            write(b"loss");
+            write_pool(pool);
+            write_field(pool.recovery);
+            write_tranche(tranche);
+        }
+    }
+}
+
+fn write_lengths(call: Call, lengths: Lengths) {
+    write(b" lengths");
+    write_length(lengths.0);
+    write_length(lengths.1);
+    write_length(lengths.2);
+    write_length(lengths.3);
+    if let Call::Column(rows) = call {
+        write_length(rows);
+    }
+}
+
+fn write_other(call: Call, other: Pool) {
+    match call {
+        Call::Row(_) => write(b"filled"),
+        _ => write(b"over"),
+    }
+    write_pool(other);
+    write(b" ");
+}
+
+// What a call was given. Where there is another pool the arrays are lent whole, and no lengths are written.
+fn write_given(other: Pool, call: Call, pool: Pool, lengths: Lengths) {
+    if other.assets > 0 {
+        write_other(call, other);
+        write_call(call, pool);
+    } else {
+        write_call(call, pool);
+        write_lengths(call, lengths);
+    }
+}
+
+// The end of a line: what the arrays hold, unless the call only reads.
+fn write_store(
+    call: Call,
+    low_significands: &[u32],
+    high_significands: &[u32],
+    low_exponents: &[i32],
+    high_exponents: &[i32],
+) {
+    if let Call::Row(_) = call {
+        write(b"\n");
+        return;
+    }
+    write(b" slices");
+    write_checksum(low_significands, &[]);
+    write_checksum(high_significands, &[]);
+    write_checksum(&[], low_exponents);
+    write_checksum(&[], high_exponents);
+    write(b"\n");
+}
+
+fn write_refusal(refusal: u32) {
+    write(b" refusal");
+    write_field(refusal);
+}
+
+// The first places of a slice, as many as asked for or as there are.
+fn first_naturals(places: &mut [u32], count: usize) -> &mut [u32] {
+    if count < places.len() {
+        &mut places[0..count]
+    } else {
+        places
+    }
+}
+
+fn first_integers(places: &mut [i32], count: usize) -> &mut [i32] {
+    if count < places.len() {
+        &mut places[0..count]
+    } else {
+        places
+    }
+}
+
+fn write_numbers(numbers: &[u32]) {
+    for i in 0..numbers.len() {
+        write_field(numbers[i]);
+    }
+}
+
+fn write_row(part: &[u32]) {
+    write(b" part");
+    write_length(part.len());
+    write_numbers(part);
+}
+
+// The refusal, rows 0 to n where it is 0, and the checksum of what the rows were written to.
+fn write_column(pool: Pool, refusal: u32, units: &[u32]) {
+    write_refusal(refusal);
+    let rows = pool.assets as usize + 1;
+    if refusal == 0 && rows <= units.len() {
+        write_numbers(&units[0..rows]);
+    }
+    write(b" rows");
+    write_checksum(units, &[]);
+}
+
+fn write_loss(loss: Loss) {
+    match loss {
+        Loss::Untouched => write(b" untouched"),
+        Loss::Faint(x) => {
+            write(b" faint ");
+            write_bits(x);
+        }
+        Loss::Shown(bounds) => {
+            write(b" shown ");
+            write_bits(bounds.low);
+            write(b" ");
+            write_bits(bounds.high);
+        }
+    }
+}
+
+fn write_answer(answer: Answer) {
+    match answer {
+        Answer::Refused(refusal) => write_refusal(refusal),
+        Answer::Answered(loss) => write_loss(loss),
+    }
+}
+
+fn answer_column(
+    pool: Pool,
+    length: usize,
+    low_significands: &mut [u32],
+    high_significands: &mut [u32],
+    low_exponents: &mut [i32],
+    high_exponents: &mut [i32],
+) {
+    let mut units = [MARK; ROWS];
+    let refusal = pool::column(
+        pool,
+        low_significands,
+        high_significands,
+        low_exponents,
+        high_exponents,
+        first_naturals(&mut units, length),
+    );
+    write_column(pool, refusal, &units);
+}
+
+// Makes a call and writes what it answers.
+fn answer(
+    call: Call,
+    pool: Pool,
+    low_significands: &mut [u32],
+    high_significands: &mut [u32],
+    low_exponents: &mut [i32],
+    high_exponents: &mut [i32],
+) {
+    match call {
+        Call::Fill => write_refusal(pool::fill(
+            pool,
+            low_significands,
+            high_significands,
+            low_exponents,
+            high_exponents,
+        )),
+        Call::Row(k) => write_row(pool::row(pool.assets, k, low_significands)),
+        Call::Column(length) => answer_column(
+            pool,
+            length,
+            low_significands,
+            high_significands,
+            low_exponents,
+            high_exponents,
+        ),
+        Call::Loss(tranche) => write_answer(pool::tranche_loss(
+            pool,
+            tranche,
+            low_significands,
+            high_significands,
+            low_exponents,
+            high_exponents,
+        )),
+    }
+}
+
+// Runs a call on arrays that hold another pool's store. A pool of no assets is refused, and leaves the marks.
+fn run_on(other: Pool, call: Call, pool: Pool, lengths: Lengths) {
+    let mut low_significands = [MARK; PLACES];
+    let mut high_significands = [MARK; PLACES];
+    let mut low_exponents = [EXPONENT_MARK; PLACES];
+    let mut high_exponents = [EXPONENT_MARK; PLACES];
+    pool::fill(
+        other,
+        &mut low_significands,
+        &mut high_significands,
+        &mut low_exponents,
+        &mut high_exponents,
+    );
+    write_given(other, call, pool, lengths);
+    answer(
+        call,
+        pool,
+        first_naturals(&mut low_significands, lengths.0),
+        first_naturals(&mut high_significands, lengths.1),
+        first_integers(&mut low_exponents, lengths.2),
+        first_integers(&mut high_exponents, lengths.3),
+    );
+    write_store(
+        call,
+        &low_significands,
+        &high_significands,
+        &low_exponents,
+        &high_exponents,
+    );
+}
+
+// On the first places of marked arrays.
+pub fn run(call: Call, pool: Pool, lengths: Lengths) {
+    run_on(pool_of(0, 0, 0), call, pool, lengths);
+}
+
+fn ample() -> Lengths {
+    Lengths(PLACES, PLACES, PLACES, PLACES)
+}
+
+// On marked arrays, whole.
+pub fn run_ample(call: Call, pool: Pool) {
+    run(call, pool, ample());
+}
+
+// On arrays, whole, that hold another pool's store.
+pub fn run_over(other: Pool, call: Call, pool: Pool) {
+    run_on(other, call, pool, ample());
+}
+
+// Each place holds its own number.
+fn numbered() -> [u32; PLACES] {
+    let mut places = [0u32; PLACES];
+    for i in 0..PLACES {
+        places[i] = i as u32;
+    }
+    places
+}
+
+fn write_part(part: &[u32]) {
+    write(b" part");
+    write_length(part.len());
+    if 0 < part.len() {
+        write_field(part[0]);
+        write_field(part[part.len() - 1]);
+    }
+    write(b"\n");
+}
+
+pub fn row(n: u32, k: u32, length: usize) {
+    let mut places = numbered();
+    write(b"row");
+    write_field(n);
+    write_field(k);
+    write(b" length");
+    write_length(length);
+    let part = first_naturals(&mut places, length);
+    write_refusal(pool::row_refusal(n, k, part));
+    write_part(pool::row(n, k, part));
+}
