@@ -1,15 +1,23 @@
 -- The grounds in figures: each for every input, those that each call checks, in order, and for each ground inputs to which it alone applies.
 -- Assumes nothing.
-use Prim.Native.Nat.{ℕ, _+_, _*_, _/_}
+use Prim.Native.Nat.{ℕ, suc, _+_, _*_, _/_}
 use mathlib.Core.Path.{_≡_, refl}
-use mathlib.Core.Bool.{cond, not, _||_}
+use mathlib.Core.Bool.{true, false, cond, not, _||_}
 use mathlib.Core.List.{List, [], _∷_}
 use lib.Dec.{eqb, ltb}
 use Rattle.model.specs.Fraction.{whole}
 use Rattle.steps.specs.Inputs.{largestPool}
-use Rattle.grounds.specs.Grounds.{Ground, storePlaces, someShorter, assetsGround, probabilityGround, correlationGround, recoveryGround, upperGround}
+use Rattle.grounds.specs.Grounds.{Ground, firstOf, firstGround, storePlaces, someShorter, assetsGround, probabilityGround, correlationGround, recoveryGround, upperGround}
 use Rattle.grounds.specs.Grounds.{attachmentsGround, storeGround, columnGround, rowGround, poolGrounds, trancheGrounds}
 use Rattle.grounds.specs.Grounds.{fillGrounds, rowGrounds, columnGrounds, lossGrounds}
+
+-- The first ground that applies: one that does gives its number, whatever follows; one that does not leaves it to the others; none gives 0.
+pub first : (m : ℕ) (gs : List Ground)
+    → (firstGround (record { number = suc m; applies = true } ∷ gs) ≡ suc m)
+    × (firstGround (record { number = m; applies = false } ∷ gs) ≡ firstGround gs)
+    × (firstGround [] ≡ 0)
+unfolding firstGround firstOf
+first m gs = (refl, refl, refl)
 
 -- Each ground in figures, for every input.
 pub figures : (n p ρ R A B k units : ℕ) (lengths : List ℕ)

@@ -85,12 +85,7 @@ module _ (n k : ℕ) (significands : List ℕ) {part : List ℕ} (is : part ≡ 
         ) refl)
 
   part-empty : (rowRefusal n k significands ≡ 0 → ⊥) → length part ≡ 0
-  unfolding partAfter
-  part-empty not = by-number (rowRefusal n k significands) refl
-    where
-      by-number : (r : ℕ) → rowRefusal n k significands ≡ r → length part ≡ 0
-      by-number zero none = absurd (not none)
-      by-number (suc r) some = ap length is ∙ rw some refl
+  part-empty not = ap length (is ∙ sym (part-refused n k significands refl not))
 
   -- What is known of the part that is handed over follows from which it is.
   pub hands-row : HandsRow n k significands part
