@@ -1,3 +1,4 @@
 pub mod Rounding
+pub mod Whole
 pub mod Accuracy
 pub mod Binary64

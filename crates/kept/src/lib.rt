@@ -7,12 +7,11 @@ ghost use Rattle.kept.specs.Rounding.{Operand, nought, unity, roundedPro
 
 mod binary64;
 mod rounding;
+mod whole;
 
 use rounding::add;
-use rounding::placed;
 use rounding::ratio;
 use rounding::round_once;
-use rounding::select;
 
 // Which bound of an exact value a number is.
 pub enum Side {
@@ -75,10 +74,17 @@ impl Kept {
         requires { ⌜ Operand self ⌝ ∗ ⌜ Operand other ⌝ }
         ensures { λ r. ⌜ r ≡ roundedSum side self other ⌝ }
     {
-        let x = placed(self);
-        let y = placed(other);
-        let swapped = x.exponent < y.exponent;
-        add(select(swapped, y, x), select(swapped, x, y), side)
+        if self.significand == 0 {
+            return other;
+        }
+        if other.significand == 0 {
+            return self;
+        }
+        if self.exponent < other.exponent {
+            add(other, self, side)
+        } else {
+            add(self, other, side)
+        }
     }
 
     // self / divisor

@@ -1,27 +1,27 @@
 // The steps of rounding: what the methods of a kept number are made of.
 ghost use mathlib.Core.Path.{_≡_};
-ghost use mathlib.Core.Bool.{cond};
 ghost use Prim.Native.Nat.{_*_, _≤_, _<_, _^_};
 ghost use lib.IntN.{pos, _-ℤ_};
 ghost use lib.Signed.{_≤ℤ_};
 ghost use Rattle.model.specs.Fraction.{Fraction, plus, divided};
-ghost use Rattle.kept.specs.Rounding.{Reach, Operand, scaled, value, increment, carry, round};
+ghost use Rattle.kept.specs.Rounding.{Normal, Reach, Operand, scaled, value, increment, carry, round};
 ghost use Rattle.kept.specs.Rounding.Leading.{Between};
 ghost use Rattle.kept.specs.Rounding.Words.{shiftOf};
-ghost use Rattle.kept.specs.Rounding.Sums.{Gap, Addend, placeOf};
+ghost use Rattle.kept.specs.Rounding.Sums.{Gap};
 use super::Kept;
 use super::Side;
 
-// One on the high side where something was dropped: anything but zero is carried to 2^33 there. It is a sum and no branch, since
-// nothing foretells whether the last digits are all zero.
+// One on the high side where something was dropped: the number that is added there carries anything but zero to 2^33. It is a sum
+// and no branch, since nothing foretells whether the last digits are all zero.
 pub fn one_more(side: Side, dropped: u64) -> u64
     requires { ⌜ dropped < 2 ^ 33 ⌝ }
     ensures { λ r. ⌜ r ≡ increment side dropped ⌝ }
 {
-    match side {
+    let added: u64 = match side {
         Side::Low => 0,
-        Side::High => (dropped + 0x1_ffff_ffff) >> 33,
-    }
+        Side::High => 0x1_ffff_ffff,
+    };
+    (dropped + added) >> 33
 }
 
 // The exponent of a number that was shifted up.
@@ -53,14 +53,14 @@ pub fn carried_exponent(significand: u64, exponent: i32) -> i32
     }
 }
 
-// A significand of 2^32 is halved, and the exponent one more. The shift is by one there and by nothing below it.
+// A significand of 2^32 is halved, and the exponent one more: 2^31 is taken off there, and nothing below it.
 pub fn carried(significand: u64, exponent: i32) -> Kept
     requires { ⌜ significand ≤ 2 ^ 32 ⌝ ∗ ⌜ Reach 2000000200 exponent ⌝ }
     ensures { λ r. ⌜ r ≡ carry significand exponent ⌝ }
 {
     let top = significand >> 32;
     Kept {
-        significand: (significand >> top) as u32,
+        significand: (significand - (top << 31)) as u32,
         exponent: carried_exponent(significand, exponent),
     }
 }
@@ -102,31 +102,10 @@ pub fn ratio(n: u64, m: u32, exponent: i32, side: Side) -> Kept
     round_once(w / d, (w % d) as u32, lowered(exponent, headroom(n)), side)
 }
 
-// Zero at the lowest exponent, so that no number stands below it, and any other number as it is.
-pub fn placed(x: Kept) -> Kept
-    requires { ⌜ Operand x ⌝ }
-    ensures { λ r. ⌜ r ≡ placeOf x ⌝ }
-{
-    Kept {
-        significand: x.significand,
-        exponent: if x.significand == 0 {
-            -1_000_000_000
-        } else {
-            x.exponent
-        },
-    }
-}
-
-pub fn select(test: bool, x: Kept, y: Kept) -> Kept
-    ensures { λ r. ⌜ r ≡ cond test x y ⌝ }
-{
-    if test { x } else { y }
-}
-
-// The sum of two numbers, the first with the larger exponent. A second one that lies 32 digits or more below the first is added
-// as if it lay 32 digits below: it changes no leading digit, and only whether it is zero counts.
+// The sum of two numbers, the first above zero and with the larger exponent. A second one that lies 32 digits or more below the
+// first is added as if it lay 32 digits below: it changes no leading digit, and only whether it is zero counts.
 pub fn add(x: Kept, y: Kept, side: Side) -> Kept
-    requires { ⌜ Addend x ⌝ ∗ ⌜ Addend y ⌝ ∗ ⌜ y .exponent ≤ℤ x .exponent ⌝ }
+    requires { ⌜ Operand x ⌝ ∗ ⌜ Operand y ⌝ ∗ ⌜ Normal (x .significand) ⌝ ∗ ⌜ y .exponent ≤ℤ x .exponent ⌝ }
     ensures { λ r. ⌜ r ≡ round side (plus (value x) (value y)) ⌝ }
 {
     let d = gap(x.exponent, y.exponent);

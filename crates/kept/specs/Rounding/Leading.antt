@@ -1,17 +1,17 @@
 -- The leading digits of a fraction, and its rounding from them.
 -- Assumes nothing.
-use Prim.Native.Nat.{ℕ, zero, suc, _+_, _*_, _/_, _%_, _^_, _≤_, _<_}
+use Prim.Native.Nat.{ℕ, zero, suc, _+_, _-_, _*_, _/_, _%_, _^_, _≤_, _<_}
 use mathlib.Core.Path.{_≡_, refl, sym, ap}
 use mathlib.Core.Logic.{_⊎_, inl, inr}
 use mathlib.Core.Bool.{cond}
-use native.Mathlib.Nat.{add-zero, zero-mul, div-one, div-eq-of-lt, div-add-mod', mod-lt, zero-lt-suc, pow-succ', lt-of-not-le, lt-of-le-of-lt}
+use native.Mathlib.Nat.{sub-zero, add-zero, zero-mul, div-eq-of-lt, div-add-mod', mod-lt, zero-lt-suc, pow-succ', lt-of-not-le}
 use native.Mathlib.Nat.{mul-pos, mul-le-mul-left, mul-lt-mul-of-pos-right}
 use native.Mathlib.Numerals.{add-one}
 use native.Mathlib.Decide.{ℕ-discrete, decLe}
 use native.Mathlib.Omega.{arith}
 use lib.Dec.{eqb, lit<, lit≤}
 use lib.Arith.{lt-of-le-ne}
-use lib.Pow.{pow-pos, shr-le}
+use lib.Pow.{pow-pos}
 use lib.IntN.{ℤ, pos, _+ℤ_, +ℤ-idr}
 use lib.Ieee.{up, down}
 use lib.Ieee.Fits.{up-pos, down-pos}
@@ -120,19 +120,22 @@ carry-kept s e least most =
     (λ is. record { form = inr (record { least = lit≤ tt; below = lit< tt }) })
     (λ _ not. record { form = inr (record { least = least; below = lt-of-le-ne most not }) })
 
--- The carry without a test for 2^32: s / 2^32 is one there, and zero below it.
-pub carry-significand : (s : ℕ) (e : ℤ) → s ≤ 2 ^ 32 → carry s e .significand ≡ s / 2 ^ (s / 2 ^ 32)
+-- The carry without a test for 2^32: s / 2^32 is one there, and zero below it. The shift is one of a word.
+abbrev pub lessTop : ℕ → ℕ
+lessTop s = s - s / 2 ^ 32 * 2 ^ 31 % 2 ^ 64
+
+less-top-below : {s : ℕ} → s < 2 ^ 32 → lessTop s ≡ s
+less-top-below {s} below = rw (div-eq-of-lt below) (sub-zero s)
+
+pub carry-significand : (s : ℕ) (e : ℤ) → s ≤ 2 ^ 32 → carry s e .significand ≡ lessTop s
 unfolding nought
 carry-significand s e most =
-    by-carry (λ x. x .significand ≡ s / 2 ^ (s / 2 ^ 32)) s e
-    (λ is. rw is refl)
-    (λ is. rw is refl)
-    (λ _ not. sym (rw (div-eq-of-lt (lt-of-le-ne most not)) (div-one s)))
+    by-carry (λ x. x .significand ≡ lessTop s) s e (λ is. rw is refl) (λ is. rw is refl) (λ _ not. sym (less-top-below (lt-of-le-ne most not)))
 
-pub carry-below : (s : ℕ) → s ≤ 2 ^ 32 → s / 2 ^ (s / 2 ^ 32) < 2 ^ 32
+pub carry-below : (s : ℕ) → s ≤ 2 ^ 32 → lessTop s < 2 ^ 32
 carry-below s most = elim (ℕ-discrete s (2 ^ 32)) [
   | yes is ↦ rw is (lit< tt)
-  | no not-top ↦ lt-of-le-of-lt (shr-le s (s / 2 ^ 32)) (lt-of-le-ne most not-top)
+  | no not-top ↦ let below = lt-of-le-ne most not-top in rw (less-top-below below) below
 ]
 
 pub carry-exponent : (s : ℕ) (e : ℤ) → s ≤ 2 ^ 32 → carry s e .exponent ≡ cond (eqb s 0) (pos 0) (e +ℤ pos (s / 2 ^ 32))
@@ -185,3 +188,9 @@ unfolding increment
 increment-at-most-one Low r = lit≤ tt
 increment-at-most-one High zero = lit≤ tt
 increment-at-most-one High (suc r) = lit≤ tt
+
+pub increment-at-most : (side : Side) (r : ℕ) → increment side r ≤ r
+unfolding increment
+increment-at-most Low r = omega arith
+increment-at-most High zero = omega arith
+increment-at-most High (suc r) = omega arith

@@ -12,6 +12,7 @@ use mir.Val.{toZ, ofZ}
 use Rattle.model.specs.Fraction.Laws.{same-refl}
 use Rattle.kept.specs.Rounding.Exponents.{reach-minus, reach-whole, reach-weaken, reach-back, result-back}
 use Rattle.kept.specs.Rounding.Arithmetic.{between-exact}
+use Rattle.kept.specs.Rounding.Laws.{kept-below}
 use Rattle.kept.specs.Rounding.Sums.{Gap, gap-few, sum-word, round-sum}
 use Rattle.kept.proofs.rounding.add.Statement.{statement}
 use Rattle.kept.proofs.rounding.add.Tie as tie
@@ -23,7 +24,7 @@ gap : (c : tie.After-gap) → Gap (start c .args .x .exponent) (start c .args .y
 gap c = rw (reach-back (lit< tt) (start c .pre .0 .reach), reach-back (lit< tt) (start c .pre .1 .0 .reach)) at (c .gap .ensures)
 
 digits : (c : tie.After-gap) → start c .args .x .significand * 2 ^ c .gap .result + start c .args .y .significand < 2 ^ 64
-digits c = sum-word (start c .pre .0 .small) (start c .pre .1 .0 .small) (gap-few (gap c))
+digits c = sum-word (kept-below (start c .pre .0 .kept)) (kept-below (start c .pre .1 .0 .kept)) (gap-few (gap c))
 
 -- The shift loses no digit.
 whole : (c : tie.After-gap) → start c .args .x .significand * 2 ^ c .gap .result % 2 ^ 64 ≡ start c .args .x .significand * 2 ^ c .gap .result
@@ -54,7 +55,7 @@ returns c =
     let after = after-gap (c .before) in
     let begin = start after in
     (rw (whole after, exponent (c .before)) at (c .round-once .ensures)) _ (between-exact same-refl)
-    ∙ round-sum (begin .args .side) (begin .args .x) (begin .args .y) (begin .pre .0) (begin .pre .1 .0) (gap after)
+    ∙ round-sum (begin .args .side) (begin .args .x) (begin .args .y) (begin .pre .1 .1 .0) (begin .pre .1 .0 .kept) (gap after)
 
 pub add-spec : {M : Type 1} → statement M
 add-spec =
