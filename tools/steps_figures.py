@@ -31,14 +31,14 @@ def main():
     for j in range(4):
         digits(f"λ side. keptDefaults side 3 1000 3000 {j}", lambda side: made[side][1][j])
     for k in range(1, 4):
-        digits(f"λ side. keptPoolTail side 3 1000 3000 {k}", lambda side: tails(side, made[side][1])[k])
+        digits(f"threeTails 1000 3000 {k}", lambda side: tails(side, made[side][1])[k])
     digits("threeLoss 1000 3000 (lit< tt)", lambda side: loss(side, made[side][1], 4000, 1000, 3000))
     rows, printed = printed_rows(made[0][1]), printed_tails(made[0][1])
     for k in range(4):
         line(f"(threeRow {k} ≡ {rows[k]})")
         line(f"(threeTail {k} ≡ {printed[k]})")
     others = [steps(side, 3, 500, 500)[1] for side in (0, 1)]
-    digits("λ side. keptPoolTail side 3 500 500 1", lambda side: tails(side, others[side])[1])
+    digits("threeTails 500 500 1", lambda side: tails(side, others[side])[1])
     line(f"(printedTail 3 (keptDefaults Low 3 500 500) 3 ≡ {printed_tails(others[0])[3]})")
     line(f"(printedTail 1 (keptDefaults Low 1 1000 3000) 1 ≡ {printed_tails(steps(0, 1, 1000, 3000)[1])[1]})")
 

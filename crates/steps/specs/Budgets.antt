@@ -1,17 +1,17 @@
--- Budgets: how many parts in 2^31 the numbers that the steps make can be away from their exact values. A means of proof: no promise cites them.
+-- Budgets: how many parts in 2^31 the numbers that steps 4 to 6 make, for any row, can be away from their exact values. A means of proof: no promise cites them.
 -- Assumes nothing.
-use Prim.Native.Nat.{ℕ, suc, _+_, _*_, _≤_}
-use Rattle.model.specs.Number.{triangle}
-use Rattle.model.specs.Chances.{Chances, chance}
+use Prim.Native.Nat.{ℕ, suc, _+_, _*_, _^_, _≤_}
+use Rattle.model.specs.Number.{choose}
+use Rattle.model.specs.Fraction.{Fraction, Same, integer, times}
+use Rattle.model.specs.Chances.{Chances, Complete, chance}
 use Rattle.kept.specs.declared.Kept.{Kept}
 use Rattle.kept.specs.declared.Side.{Side}
 use Rattle.kept.specs.Accuracy.{precision, Bound}
+use Rattle.steps.specs.Counts.{countBudget}
 
--- ---- steps 4 to 6, for any row
-
--- A chance, from entries that are b away: the count of orders and the product are rounded.
-unfoldable pub chanceBudget : ℕ → ℕ
-chanceBudget b = b + 2
+-- A chance, from entries that are b away: the count of orders, and the product.
+unfoldable pub chanceBudget : (n b : ℕ) → ℕ
+chanceBudget n b = b + countBudget n + 1
 
 -- A tail, from chances of 0 to n defaults that are b away: at most n + 1 sums.
 unfoldable pub tailBudget : (n b : ℕ) → ℕ
@@ -25,19 +25,16 @@ lossBudget n b = b + 1 + suc n + 1
 pub record Bounded (b : ℕ) (r : Chances) (c : Side → ℕ → Kept) : Type 0 where
   pub bound : (side : Side) (j : ℕ) → j ≤ r .assets → Bound side b (c side j) (chance r j)
 
--- ---- the correlated binomial model
-
--- An entry of row k: 3 × T(k).
-unfoldable pub rowBudget : ℕ → ℕ
-rowBudget k = 3 * triangle k
-
--- The budget of a tranche loss, the largest among those of entries, chances, tails and losses.
-unfoldable pub poolBudget : ℕ → ℕ
-poolBudget n = lossBudget n (chanceBudget (rowBudget n))
-
--- What is asked of the number of assets: every number is within half of the 2^31 parts of its exact value, no denominator of an exact value is above
--- 2^79,968, and neither the passes nor the counts of orders bring a value above 2^100.
-pub record WithinBudgets (n : ℕ) : Type 0 where
-  pub parts : (rowBudget (suc n) + 2) * 2 ≤ precision
-  pub places : 14 * (triangle (suc n) + 2) ≤ 79968
-  pub assets : n ≤ 100
+-- What the promises of a row rest on: entries of both sides within b parts of values v of at most one; these values times the counts of orders are the chances of
+-- a complete row; no denominator is above 2^m. Every number is then within half of the 2^31 parts of its exact value, and no denominator of one is above
+-- 2^79,968.
+pub record WithinBudget (b m : ℕ) (r : Chances) (v : ℕ → Fraction) (entry : Side → ℕ → Kept) : Type 0 where
+  pub complete : Complete r
+  pub entries : (side : Side) (j : ℕ) → j ≤ r .assets → Bound side b (entry side j) (v j)
+  pub at-most-one : (j : ℕ) → j ≤ r .assets → v j .num ≤ v j .den
+  pub counted : (j : ℕ) → j ≤ r .assets → Same (times (integer (choose (r .assets) j)) (v j)) (chance r j)
+  pub denominators : (j : ℕ) → j ≤ r .assets → v j .den ≤ 2 ^ m
+  pub denominator : r .denominator ≤ 2 ^ m
+  pub parts : lossBudget (r .assets) (chanceBudget (r .assets) b) * 2 ≤ precision
+  pub places : m + 32 ≤ 79968
+  pub assets : r .assets ≤ 100

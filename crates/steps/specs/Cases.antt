@@ -14,11 +14,13 @@ use Rattle.kept.specs.declared.Kept.{Kept}
 use Rattle.kept.specs.declared.Side.{Side}
 use Rattle.kept.specs.declared.Side.the-variants.{Low, High}
 use Rattle.kept.specs.Rounding.{scaled, nought, unity, increment, carry, round, roundedProduct, roundedSum, roundedQuotient, ofInteger, ofBasisPoints}
+use Rattle.kept.specs.Whole.{wholeOf}
 use Rattle.kept.specs.Binary64.{leastShown, belowShown, toBinary64}
 use Rattle.steps.specs.CorrelatedBinomial.Rows.{constant, keptConditional, keptJoint, keptPower, keptWeight, keptPassStep, keptRow}
-use Rattle.steps.specs.Chances.{keptTotal, keptChance, keptTail, keptTerm, keptLoss}
-use Rattle.steps.specs.Column.{unitsOfCertainty, inUnits, printedTail, printedRow}
-use Rattle.steps.specs.CorrelatedBinomial.{keptDefaults, keptPoolTail, keptPoolLoss}
+use Rattle.steps.specs.Counts.{keptCount}
+use Rattle.steps.specs.Chances.{keptTotal, keptChance, keptChances, keptTail, keptTerm, keptLoss}
+use Rattle.steps.specs.Column.{unitsOfCertainty, exactUnits, inUnits, printedTail, printedRow}
+use Rattle.steps.specs.CorrelatedBinomial.{keptDefaults}
 use Rattle.steps.specs.Loss.{untouched, faint, shown, keptLeastShown, raisedToShown, lossAnswer}
 
 -- s × 2^−(n+1)
@@ -29,9 +31,13 @@ figure s n = record { significand = s; exponent = negsuc n }
 abbrev Digits : (Side → Kept) → (low high n : ℕ) → Type 0
 Digits x low high n = (x Low ≡ figure low n) × (x High ≡ figure high n)
 
+-- The tail at k of three assets.
+abbrev threeTails : (p ρ k : ℕ) → (side : Side) → Kept
+threeTails p ρ k side = keptTail side 3 (keptDefaults side 3 p ρ) k
+
 -- With p = 1000 and ρ = 3000: a tranche with recovery 4000, the printed rows and tails.
 abbrev threeLoss : (A B : ℕ) → 0 < (B - A) * 3 → (side : Side) → Kept
-threeLoss A B wide side = keptPoolLoss side 3 1000 3000 4000 A B wide
+threeLoss A B wide side = keptLoss side 3 (keptDefaults side 3 1000 3000) 4000 A B wide
 
 abbrev threeRow : ℕ → ℕ
 threeRow k = printedRow 3 (keptDefaults Low 3 1000 3000) k
@@ -53,9 +59,9 @@ pub cases :
     × Digits (λ side. keptDefaults side 3 1000 3000 1) 2406023496 2406023504 33
     × Digits (λ side. keptDefaults side 3 1000 3000 2) 3363887100 3363887112 35
     × Digits (λ side. keptDefaults side 3 1000 3000 3) 2842649870 2842649879 36
-    × Digits (λ side. keptPoolTail side 3 1000 3000 1) 3602326504 3602326517 33
-    × Digits (λ side. keptPoolTail side 3 1000 3000 2) 2392606017 2392606026 34
-    × Digits (λ side. keptPoolTail side 3 1000 3000 3) 2842649870 2842649879 36
+    × Digits (threeTails 1000 3000 1) 3602326504 3602326517 33
+    × Digits (threeTails 1000 3000 2) 2392606017 2392606026 34
+    × Digits (threeTails 1000 3000 3) 2842649870 2842649879 36
     × Digits (threeLoss 1000 3000 (lit< tt)) 2399314755 2399314766 33
     × (threeRow 0 ≡ 79032)
     × (threeRow 1 ≡ 14005)
@@ -66,7 +72,7 @@ pub cases :
     × (threeTail 2 ≡ 6963)
     × (threeTail 3 ≡ 2068)
     -- Here the order of the sums shows in the last digit.
-    × Digits (λ side. keptPoolTail side 3 500 500 1) 2337669897 2337669905 33
+    × Digits (threeTails 500 500 1) 2337669897 2337669905 33
     -- A tranche that defaults reach, one that none reaches, and a high bound of 2^−870 with a low bound of zero.
     × (lossAnswer (threeLoss 1000 3000 (lit< tt) Low) (threeLoss 1000 3000 (lit< tt) High) ≡ shown (toBinary64 (figure 2399314755 33)) (toBinary64 (figure 2399314766 33)))
     × (lossAnswer (threeLoss 6000 10000 (lit< tt) Low) (threeLoss 6000 10000 (lit< tt) High) ≡ untouched)
@@ -74,7 +80,7 @@ pub cases :
     -- A tail of 69.5 units is rounded down, and one of 10,000 units has less on the low side.
     × (printedTail 3 (keptDefaults Low 3 500 500) 3 ≡ 69)
     × (printedTail 1 (keptDefaults Low 1 1000 3000) 1 ≡ 9999)
-unfolding scaled nought unity increment carry round roundedProduct roundedSum roundedQuotient ofInteger ofBasisPoints size choose cut raise integer plus times divided whole complement over pass passed lossUnits constant keptConditional keptJoint keptPower keptWeight keptPassStep keptRow keptTotal keptChance keptTail keptTerm keptLoss unitsOfCertainty inUnits printedTail printedRow keptDefaults keptPoolTail keptPoolLoss leastShown belowShown keptLeastShown raisedToShown lossAnswer
+unfolding scaled nought unity increment carry round roundedProduct roundedSum roundedQuotient ofInteger ofBasisPoints size choose cut raise integer plus times divided whole complement over pass passed lossUnits constant keptConditional keptJoint keptPower keptWeight keptPassStep keptRow keptTotal keptCount keptChance keptChances keptTail keptTerm keptLoss unitsOfCertainty exactUnits wholeOf inUnits printedTail printedRow keptDefaults leastShown belowShown keptLeastShown raisedToShown lossAnswer
 cases = (
   (refl, refl),
   (refl, refl),

@@ -2,11 +2,11 @@
 -- come from. Each product, sum and quotient is rounded once.
 -- Assumes nothing.
 use Prim.Native.Nat.{ℕ, zero, suc, _-_, _*_, _<_}
-use Rattle.model.specs.Number.{choose}
 use Rattle.model.specs.Chances.{lossUnits}
 use Rattle.kept.specs.declared.Kept.{Kept}
 use Rattle.kept.specs.declared.Side.{Side}
 use Rattle.kept.specs.Rounding.{nought, ofInteger, roundedProduct, roundedSum, roundedQuotient}
+use Rattle.steps.specs.Counts.{keptCount}
 pub mod Laws
 
 module _ (side : Side) where
@@ -16,9 +16,13 @@ module _ (side : Side) where
   keptTotal f (suc m) = roundedSum side (keptTotal f m) (f m)
 
   module _ (n : ℕ) where
-    -- Step 4: the chance of j defaults in any order. C(n,j) is worked out exactly and rounded, then multiplied by entry j.
+    -- Step 4: the chance of j defaults in any order. The count of orders is multiplied by entry j.
     unfoldable pub keptChance : (j : ℕ) (entry : Kept) → Kept
-    keptChance j entry = roundedProduct side (ofInteger side (choose n j)) entry
+    keptChance j entry = roundedProduct side (keptCount side n j) entry
+
+    -- The chances of 0 to n defaults, from the entries of a row.
+    unfoldable pub keptChances : (entry : ℕ → Kept) → ℕ → Kept
+    keptChances entry j = keptChance j (entry j)
 
     module _ (c : ℕ → Kept) where
       -- Step 5: the tail at k. Starting from zero, the chances c of n, n − 1, … down to k defaults are added.

@@ -1,6 +1,6 @@
 -- The printed column, in units, from the chances of the low side.
 -- Assumes nothing.
-use Prim.Native.Nat.{ℕ, zero, suc, _+_, _-_, _*_, _/_, _≤_}
+use Prim.Native.Nat.{ℕ, zero, suc, _+_, _-_, _≤_}
 use mathlib.Core.Path.{_≡_}
 use lib.Dec.{lit<}
 use Rattle.model.specs.Number.{sum}
@@ -9,6 +9,7 @@ use Rattle.model.specs.Chances.{Chances, chance, tail}
 use Rattle.kept.specs.declared.Kept.{Kept}
 use Rattle.kept.specs.declared.Side.the-variants.{Low}
 use Rattle.kept.specs.Rounding.{value}
+use Rattle.kept.specs.Whole.{wholeOf}
 use Rattle.steps.specs.Chances.{keptTail}
 pub mod Laws
 
@@ -16,9 +17,13 @@ pub mod Laws
 unfoldable pub unitsOfCertainty : ℕ
 unitsOfCertainty = 100000
 
--- x in units, rounded down.
+-- A fraction in units.
+unfoldable pub exactUnits : Fraction → Fraction
+exactUnits x = times (integer unitsOfCertainty) x
+
+-- x in whole units, rounded down.
 unfoldable pub inUnits : Kept → ℕ
-inUnits x = unitsOfCertainty * value x .num / value x .den
+inUnits x = wholeOf Low (exactUnits (value x))
 
 module _ (n : ℕ) (c : ℕ → Kept) where
   -- The printed tail at k: the low tail in whole units. That at 0 is certainty.
@@ -29,10 +34,6 @@ module _ (n : ℕ) (c : ℕ → Kept) where
   -- Row k: its tail less the tail at k + 1. The tail past n is zero, so that row n is its own tail.
   unfoldable pub printedRow : ℕ → ℕ
   printedRow k = printedTail k - printedTail (suc k)
-
--- A fraction in units.
-unfoldable pub exactUnits : Fraction → Fraction
-exactUnits x = times (integer unitsOfCertainty) x
 
 -- What is used of a printed tail t, however it is rounded: it does not grow; in units it is at most `above` above the exact tail and less than `below` below
 -- it; at 0 it is 100,000; past n it is zero.

@@ -8,6 +8,14 @@ pub mod Laws
 unfoldable pub largestPool : ℕ
 largestPool = 64
 
+-- Bounds for n assets, those of row n of a store among them, are at most one part in so many apart.
+unfoldable pub distanceFor : ℕ → ℕ
+distanceFor n = 100000
+
+-- A printed row for n assets is less than so many tenths of a unit off.
+unfoldable pub tenthsFor : ℕ → ℕ
+tenthsFor n = 15
+
 -- The most assets that a working row has places for.
 unfoldable pub workingAssets : ℕ
 workingAssets = 64

@@ -1,9 +1,12 @@
 pub mod Inputs
+pub mod Counts
 pub mod Budgets
 pub mod Chances
 pub mod Column
 pub mod Loss
 pub mod Enclosure
 pub mod Exponents
+pub mod Numbers
+pub mod Promises
 pub mod CorrelatedBinomial
 pub mod Cases

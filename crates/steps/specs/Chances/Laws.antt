@@ -14,20 +14,21 @@ use Rattle.kept.specs.declared.Kept.{Kept}
 use Rattle.kept.specs.declared.Side.{Side}
 use Rattle.kept.specs.declared.Side.the-variants.{Low, High}
 use Rattle.kept.specs.Accuracy.{Bound, BudgetFor}
-use Rattle.kept.specs.Accuracy.Laws.{bound-exact, bound-weaken, bound-same, bound-integer, bound-product, bound-sum, bound-quotient}
+use Rattle.kept.specs.Accuracy.Laws.{bound-exact, bound-weaken, bound-same, bound-product, bound-sum, bound-quotient}
 use Rattle.kept.specs.Rounding.{IsKept, value, round, roundedProduct, ofInteger}
 use Rattle.kept.specs.Rounding.Leading.{nought-same}
 use Rattle.kept.specs.Rounding.Laws.{nought-kept, round-cong, quotient-is, integer-is, integer-exact}
 use Rattle.steps.specs.Enclosure.{Enclosed}
 use Rattle.steps.specs.Budgets.{Bounded, chanceBudget, tailBudget, lossBudget}
 use Rattle.steps.specs.Enclosure.Laws.{bound-enclosed}
+use Rattle.steps.specs.Counts.Laws.{count-bound}
 use Rattle.steps.specs.Chances.{keptTotal, keptChance, keptTail, keptTerm, keptLoss}
 
 -- Step 4, for any exact value v of entry j.
 pub chance-bound : {side : Side} {b : ℕ} {entry : Kept} {v : Fraction} (n j : ℕ)
-    → Bound side b entry v → Bound side (chanceBudget b) (keptChance side n j entry) (times (integer (choose n j)) v)
+    → Bound side b entry v → Bound side (chanceBudget n b) (keptChance side n j entry) (times (integer (choose n j)) v)
 unfolding chanceBudget keptChance
-chance-bound {side} n j m = bound-weaken (omega arith) (bound-product (bound-integer side (choose n j)) m)
+chance-bound {side} n j m = bound-weaken (omega arith) (bound-product (count-bound side n j) m)
 
 -- Loss units below 2^32 are kept as they are.
 units-exact : (side : Side) (n R A B X : ℕ) → (B - A) * n < 2 ^ 32

@@ -3,8 +3,7 @@
 use Prim.Native.Nat.{ℕ, zero, suc, _+_, _*_, _-_, _≤_, _<_}
 use mathlib.Core.Path.{_≡_, refl, ap}
 use native.Mathlib.Decide.{decLe}
-use native.Mathlib.Nat.{div-mul-le-self, le-div-iff-mul-le, lt-div-mul-add, lt-of-mul-lt-mul-right, mul-le-mul-right, mul-lt-mul-of-pos-right}
-use native.Mathlib.Nat.{mul-pos, mul-zero, sub-self, zero-div}
+use native.Mathlib.Nat.{lt-of-mul-lt-mul-right, mul-le-mul-right, mul-lt-mul-of-pos-right, mul-pos, mul-zero, sub-self}
 use native.Mathlib.Omega.{arith}
 use Rattle.model.specs.Number.{sum}
 use Rattle.model.specs.Fraction.{Fraction, Same, AtMost, Less, certainty, integer, plus, times}
@@ -16,6 +15,7 @@ use Rattle.kept.specs.declared.Side.{Side}
 use Rattle.kept.specs.declared.Side.the-variants.{Low}
 use Rattle.kept.specs.Rounding.{IsKept, scaled, value, nought}
 use Rattle.kept.specs.Rounding.Laws.{nought-kept, sum-is}
+use Rattle.kept.specs.Whole.Laws.{whole-is, whole-next, whole-mono, whole-nought}
 use Rattle.kept.specs.Accuracy.{precision}
 use Rattle.kept.specs.Accuracy.Laws.{precision-positive}
 use Rattle.steps.specs.Budgets.{Bounded, tailBudget}
@@ -79,22 +79,22 @@ units-certainty : Same (exactUnits certainty) (integer unitsOfCertainty)
 unfolding exactUnits times integer certainty
 units-certainty = omega arith
 
--- x in whole units is not above x; one unit more is above it; no greater whole number is at most x in units.
+-- x in whole units is not above x; one unit more is above it; of a greater number it is no smaller.
 in-units-at-most : (x : Kept) → AtMost (integer (inUnits x)) (exactUnits (value x))
-unfolding inUnits exactUnits times integer
-in-units-at-most x = omega (arith, div-mul-le-self (unitsOfCertainty * value x .num) (value x .den))
+unfolding inUnits
+in-units-at-most x = whole-is Low (exactUnits (value x)) .on-side
 
 in-units-next : (x : Kept) → Less (exactUnits (value x)) (integer (suc (inUnits x)))
-unfolding inUnits exactUnits times integer
-in-units-next x = omega (arith, lt-div-mul-add {a = unitsOfCertainty * value x .num} (value x .positive))
+unfolding inUnits
+in-units-next x = whole-next (exactUnits (value x))
 
-in-units-best : {q : ℕ} (x : Kept) → AtMost (integer q) (exactUnits (value x)) → q ≤ inUnits x
-unfolding inUnits exactUnits times integer
-in-units-best x l = le-div-iff-mul-le (value x .positive) .1 (omega (arith, l .cross))
+in-units-order : (x y : Kept) → AtMost (value x) (value y) → inUnits x ≤ inUnits y
+unfolding inUnits
+in-units-order x y le = whole-mono Low (units-order le)
 
-in-units-nought : inUnits nought ≡ 0
-unfolding inUnits nought scaled
-in-units-nought = rw (mul-zero, zero-div)
+pub in-units-nought : inUnits nought ≡ 0
+unfolding inUnits exactUnits times integer nought scaled
+in-units-nought = whole-nought Low (exactUnits (value nought)) (mul-zero unitsOfCertainty)
 
 -- ---- low tails
 
@@ -124,7 +124,7 @@ module _ {b : ℕ} {r : Chances} {c : Side → ℕ → Kept} (bounded : Bounded 
   low-tail = keptTail Low (r .assets) (c Low)
 
   low-falls : (k : ℕ) → inUnits (low-tail (suc k)) ≤ inUnits (low-tail k)
-  low-falls k = in-units-best (low-tail k) (at-most-trans (in-units-at-most (low-tail (suc k))) (units-order (low-tail-falls (r .assets) (c Low) k)))
+  low-falls k = in-units-order (low-tail (suc k)) (low-tail k) (low-tail-falls (r .assets) (c Low) k)
 
   low-at-most : (k : ℕ) → AtMost (integer (inUnits (low-tail k))) (exactUnits (tail r k))
   low-at-most k = at-most-trans (in-units-at-most (low-tail k)) (units-order (tail-bound bounded Low k .order))
@@ -133,12 +133,17 @@ module _ {b : ℕ} {r : Chances} {c : Side → ℕ → Kept} (bounded : Bounded 
   low-at-most-one k =
       at-most-trans (low-at-most k) (at-most-trans (units-order (tail-at-most-one r complete k)) (at-most-of-same units-certainty))
 
+  -- The printed tails do not grow.
+  pub printed-falls : (k : ℕ) → printedTail (r .assets) (c Low) (suc k) ≤ printedTail (r .assets) (c Low) k
+  unfolding printedTail
+  printed-falls k = elim k [ zero ↦ unfold integer in omega (arith, low-at-most-one 1 .cross) | suc j ↦ low-falls (suc j) ]
+
   -- The tails of low chances that are b away, rounded down: one unit is lost by that, and 100,000 × budget / 2^31 by the low tail.
   pub printed-tails : {below : Fraction} → (precision + unitsOfCertainty * tailBudget (r .assets) b) * below .den ≤ below .num * precision
       → PrintsTails (integer 0) below r (printedTail (r .assets) (c Low))
   unfolding printedTail
   printed-tails {below} slack = record {
-    falls = λ k. elim k [ zero ↦ unfold integer in omega (arith, low-at-most-one 1 .cross) | suc j ↦ low-falls (suc j) ];
+    falls = printed-falls;
     at-most = λ k. at-most-trans (elim k [ zero ↦ at-zero | suc j ↦ low-at-most (suc j) ]) (plus-more (exactUnits (tail r k)) (integer 0));
     more-than = λ k. elim k [
       | zero ↦ less-at-most-trans (more-than 0) (plus-mono (low-at-most-one 0) at-most-refl)

@@ -1,13 +1,12 @@
 -- The numbers that the steps make for a pool by the correlated binomial model, of which each has an exponent in its range.
 -- Assumes nothing.
 use Prim.Native.Nat.{ℕ, suc, _≤_}
-use Rattle.model.specs.Fraction.{whole, complement}
+use Rattle.model.specs.Fraction.{complement}
 use Rattle.model.specs.Passes.{passed}
 use Rattle.kept.specs.declared.Kept.{Kept}
 use Rattle.kept.specs.declared.Side.{Side}
 use Rattle.kept.specs.Rounding.{roundedProduct}
-use Rattle.steps.specs.Exponents.{ChanceNumber, TailNumber, LossNumber}
-use Rattle.steps.specs.CorrelatedBinomial.{keptDefaults}
+use Rattle.steps.specs.Numbers.{StepNumber}
 use Rattle.steps.specs.CorrelatedBinomial.Rows.{constant, keptConditional, keptJoint, keptPower, keptWeight, keptPassStep, keptRow}
 pub mod Laws
 
@@ -31,6 +30,4 @@ pub data RowNumber (side : Side) (n p ρ : ℕ) : Kept → Type 0 where
 -- Every number that the steps make for a pool, and for each tranche on it.
 pub data PoolNumber (side : Side) (n p ρ : ℕ) : Kept → Type 0 where
   of-rows : {x : Kept} → RowNumber side n p ρ x → PoolNumber side n p ρ x
-  of-chances : {x : Kept} → ChanceNumber side n (keptRow side p ρ n) x → PoolNumber side n p ρ x
-  of-tails : {x : Kept} → TailNumber side n (keptDefaults side n p ρ) x → PoolNumber side n p ρ x
-  of-losses : {x : Kept} (R A B : ℕ) → B ≤ whole → LossNumber side n (keptDefaults side n p ρ) R A B x → PoolNumber side n p ρ x
+  of-steps : {x : Kept} → StepNumber side n (keptRow side p ρ n) x → PoolNumber side n p ρ x

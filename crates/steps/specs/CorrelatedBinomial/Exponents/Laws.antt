@@ -13,15 +13,14 @@ use Rattle.model.specs.CorrelatedBinomial.Rows.{row-at-most, conditional-at-mos
 use Rattle.kept.specs.declared.Kept.{Kept}
 use Rattle.kept.specs.declared.Side.{Side}
 use Rattle.kept.specs.Rounding.{roundedProduct}
-use Rattle.steps.specs.Budgets.{rowBudget}
+use Rattle.steps.specs.CorrelatedBinomial.Budgets.{rowBudget, FewAssets}
 use Rattle.steps.specs.CorrelatedBinomial.Rows.{constant, keptPassStep, keptRow}
 use Rattle.steps.specs.CorrelatedBinomial.Rows.Laws.{BoundOver, constant-bound, constant-times-bound, times-constant-bound, conditional-bound, joint-bound, power-bound, weight-bound, folded-bound, row-bound}
 use Rattle.steps.specs.Exponents.{Ranged}
 use Rattle.steps.specs.Exponents.Laws.{bound-ranged, unscaled}
-use Rattle.steps.specs.Budgets.{WithinBudgets}
 use Rattle.steps.specs.CorrelatedBinomial.Exponents.{RowNumber, is-p, is-a, is-ρ, is-q, is-conditional-product, is-conditional, is-joint, is-power, is-weight, is-passed, is-pass-product, is-entry}
 
-module _ (side : Side) {n p ρ : ℕ} (within : WithinBudgets n) (p≤1 : p ≤ whole) (ρ≤1 : ρ ≤ whole) where
+module _ (side : Side) {n p ρ : ℕ} (within : FewAssets n) (p≤1 : p ≤ whole) (ρ≤1 : ρ ≤ whole) where
   -- A value of at most 2^c over a power of 10,000, and one of at most one.
   over-ranged : {b N t : ℕ} {x : Kept} (c : ℕ) → BoundOver side b x N t → N ≤ whole ^ t * 2 ^ c
       → (b ≤ rowBudget (suc n)) × (t ≤ triangle (suc n) + 1) × (c ≤ n) → Ranged x

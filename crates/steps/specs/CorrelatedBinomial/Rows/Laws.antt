@@ -21,7 +21,7 @@ use Rattle.kept.specs.Rounding.Laws.{unity-kept, unity-value}
 use Rattle.kept.specs.Accuracy.{Bound}
 use Rattle.kept.specs.Accuracy.Laws.{bound-exact, bound-weaken, bound-same, bound-basis-points, bound-product, bound-sum}
 use Rattle.steps.specs.CorrelatedBinomial.Rows.{constant, keptConditional, keptJoint, keptPower, keptWeight, keptPassStep, keptRow}
-use Rattle.steps.specs.Budgets.{rowBudget}
+use Rattle.steps.specs.CorrelatedBinomial.Budgets.{rowBudget}
 
 -- ---- numbers over powers of 10,000
 

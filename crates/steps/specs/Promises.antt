@@ -1,0 +1,52 @@
+-- What calls promise of the numbers that steps 4 to 6 make, for a row of chances in general: r is the exact row, c the kept chances of both sides.
+-- Assumes nothing.
+use Prim.Native.Nat.{ℕ, suc, _+_, _-_, _*_, _≤_, _<_}
+use mathlib.Core.Path.{_≡_}
+use mathlib.Core.List.{List}
+use lib.ListN.{getD}
+use Rattle.model.specs.Number.{sum}
+use Rattle.model.specs.Fraction.{Fraction, integer, whole}
+use Rattle.model.specs.Chances.{Chances, chance, tail, expectedLoss}
+use Rattle.kept.specs.declared.Kept.{Kept}
+use Rattle.kept.specs.declared.Side.{Side}
+use Rattle.kept.specs.declared.Side.the-variants.{Low, High}
+use Rattle.steps.specs.Chances.{keptTail, keptLoss}
+use Rattle.steps.specs.Column.{unitsOfCertainty, printedTail, exactUnits, Within}
+use Rattle.steps.specs.Enclosure.{Enclosed}
+use Rattle.steps.specs.Exponents.{Ranged}
+use Rattle.steps.specs.Loss.{LossAnswer, lossAnswer, Says}
+pub mod Laws
+
+-- The bounds of chances, tails and tranche losses enclose the exact values and are at most one part in g apart.
+pub record RowEnclosed (g : ℕ) (r : Chances) (c : Side → ℕ → Kept) : Type 0 where
+  -- Step 4, with the chance of j defaults in any order.
+  pub chances : {j : ℕ} → j ≤ r .assets → Enclosed g (c Low j) (c High j) (chance r j)
+  -- Step 5, with the tail at k.
+  pub tails : (k : ℕ) → Enclosed g (keptTail Low (r .assets) (c Low) k) (keptTail High (r .assets) (c High) k) (tail r k)
+  -- Step 6, with the expected loss of a tranche.
+  pub losses : (R A B : ℕ) → B ≤ whole → (wide : 0 < (B - A) * r .assets)
+      → Enclosed g (keptLoss Low (r .assets) (c Low) R A B wide) (keptLoss High (r .assets) (c High) R A B wide) (expectedLoss r R A B wide)
+
+-- What holds of all that the steps make: such bounds, and for every number that is made an exponent from −80,000 to 100.
+pub record HoldsSteps (g : ℕ) (r : Chances) (c : Side → ℕ → Kept) (Made : Side → Kept → Type 0) : Type 0 where
+  pub enclosed : RowEnclosed g r c
+  pub ranged : (side : Side) {x : Kept} → Made side x → Ranged x
+
+-- What holds of the rows of a column that stand in a slice, from the chances of the low side: they add to exactly 100,000 units; each is what its printed tail
+-- has more than the next, so that none is below zero; row n is its own tail; each is less than `off` units from the exact chance.
+pub record HoldsColumn (off : Fraction) (r : Chances) (low : ℕ → Kept) (units : List ℕ) : Type 0 where
+  pub total : sum (suc (r .assets)) (λ k. getD units k 0) ≡ unitsOfCertainty
+  pub difference : (k : ℕ) → k ≤ r .assets → getD units k 0 + printedTail (r .assets) low (suc k) ≡ printedTail (r .assets) low k
+  pub last : getD units (r .assets) 0 ≡ printedTail (r .assets) low (r .assets)
+  pub near : (k : ℕ) → k ≤ r .assets → Within off (integer (getD units k 0)) (exactUnits (chance r k))
+
+-- What holds of a tranche loss that is answered: it is the one that the bounds of step 6 give, which enclose the exact loss and are at most one part in g apart;
+-- and what its case says of them.
+module _ (g : ℕ) (r : Chances) (c : Side → ℕ → Kept) (R A B : ℕ) (wide : 0 < (B - A) * r .assets) where
+  abbrev lossOn : Side → Kept
+  lossOn side = keptLoss side (r .assets) (c side) R A B wide
+
+  pub record HoldsLoss (loss : LossAnswer) : Type 0 where
+    pub answer-is : loss ≡ lossAnswer (lossOn Low) (lossOn High)
+    pub enclosed : Enclosed g (lossOn Low) (lossOn High) (expectedLoss r R A B wide)
+    pub says : Says g (lossOn Low) (lossOn High) (expectedLoss r R A B wide) loss

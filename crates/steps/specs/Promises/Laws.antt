@@ -1,0 +1,84 @@
+-- The promises of a row of chances in general.
+-- Assumes nothing.
+use Prim.Native.Nat.{ℕ, suc, _+_, _-_, _*_, _^_, _≤_, _<_}
+use mathlib.Core.Path.{_≡_, _∙_}
+use mathlib.Core.List.{List}
+use native.Mathlib.Omega.{arith}
+use native.Mathlib.Nat.{le-refl, mul-le-mul-right}
+use lib.ListN.{getD}
+use Rattle.model.specs.Number.Laws.{sum-cong}
+use Rattle.model.specs.Fraction.{Fraction, integer, whole}
+use Rattle.model.specs.Chances.{Chances}
+use Rattle.kept.specs.declared.Kept.{Kept}
+use Rattle.kept.specs.declared.Side.{Side}
+use Rattle.kept.specs.declared.Side.the-variants.{Low, High}
+use Rattle.kept.specs.Accuracy.{precision, BudgetFor}
+use Rattle.kept.specs.Accuracy.Laws.{bound-same, budget-for-weaken}
+use Rattle.steps.specs.Budgets.{chanceBudget, tailBudget, lossBudget, Bounded, WithinBudget}
+use Rattle.steps.specs.Chances.{keptChances, keptLoss}
+use Rattle.steps.specs.Chances.Laws.{chance-bound, chance-enclosed, tail-enclosed, loss-enclosed}
+use Rattle.steps.specs.Column.{unitsOfCertainty, printedTail, printedRow, PrintsTails, PrintsColumn}
+use Rattle.steps.specs.Column.Laws.{printed-tails}
+use Rattle.steps.specs.Exponents.{Ranged}
+use Rattle.steps.specs.Loss.{LossAnswer, lossAnswer}
+use Rattle.steps.specs.Loss.Laws.{tranche-says}
+use Rattle.steps.specs.Numbers.{StepNumber, of-chances, of-tails, of-losses}
+use Rattle.steps.specs.Numbers.Laws.{chances-ranged, tails-ranged, losses-ranged}
+use Rattle.steps.specs.Promises.{RowEnclosed, HoldsColumn, HoldsLoss}
+
+module _ {b m : ℕ} {r : Chances} {v : ℕ → Fraction} {entry : Side → ℕ → Kept} (within : WithinBudget b m r v entry) where
+  abbrev kept : Side → ℕ → Kept
+  kept side = keptChances side (r .assets) (entry side)
+
+  -- The chances that step 4 makes, against the exact ones.
+  pub chances-bounded : Bounded (chanceBudget (r .assets) b) r (λ side. keptChances side (r .assets) (entry side))
+  unfolding keptChances
+  chances-bounded = record { bound = λ side j l. bound-same (within .counted j l) (chance-bound (r .assets) j (within .entries side j l)) }
+
+  -- Loss units are whole numbers below 2^32.
+  narrow : (A B : ℕ) → B ≤ whole → (B - A) * r .assets < 2 ^ 32
+  unfolding whole
+  narrow A B B≤1 = let part : B - A ≤ whole = omega arith in omega (arith, mul-le-mul-right (r .assets) part, within .assets)
+
+  pub steps-ranged : (side : Side) {x : Kept} → StepNumber side (r .assets) (entry side) x → Ranged x
+  unfolding lossBudget
+  steps-ranged side (of-chances number) =
+      chances-ranged v (within .entries side) (within .at-most-one) (within .denominators) (omega (arith, within .parts, within .places, within .assets)) number
+  steps-ranged side (of-tails number) =
+      tails-ranged chances-bounded (within .complete) side m (within .denominator) (within .parts, within .places) number
+  steps-ranged side (of-losses R A B B≤1 number) =
+      losses-ranged chances-bounded (within .complete) side m (within .denominator) (within .parts, within .places) R A B (narrow A B B≤1) number
+
+  -- Printed tails of the low side, less than `below` under the exact ones.
+  pub row-tails : {below : Fraction}
+      → (precision + unitsOfCertainty * tailBudget (r .assets) (chanceBudget (r .assets) b)) * below .den ≤ below .num * precision
+      → PrintsTails (integer 0) below r (printedTail (r .assets) (kept Low))
+  row-tails slack = printed-tails chances-bounded (within .complete) slack
+
+  -- Where two numbers at the budget of a loss are at most one part in g apart, all bounds are.
+  module _ {g : ℕ} (fine : BudgetFor g (lossBudget (r .assets) (chanceBudget (r .assets) b))) where
+    pub row-enclosed : RowEnclosed g r (λ side. keptChances side (r .assets) (entry side))
+    unfolding lossBudget tailBudget
+    row-enclosed = record {
+      chances = chance-enclosed chances-bounded (budget-for-weaken (omega arith) fine);
+      tails = tail-enclosed chances-bounded (budget-for-weaken (omega arith) fine);
+      losses = λ R A B B≤1 wide. loss-enclosed chances-bounded fine R A B (narrow A B B≤1) wide;
+    }
+
+    pub loss-holds : {R A B : ℕ} → B ≤ whole → (wide : 0 < (B - A) * r .assets) {loss : LossAnswer}
+        → loss ≡ lossAnswer (keptLoss Low (r .assets) (kept Low) R A B wide) (keptLoss High (r .assets) (kept High) R A B wide)
+        → HoldsLoss g r (λ side. keptChances side (r .assets) (entry side)) R A B wide loss
+    loss-holds {R} {A} {B} B≤1 wide is =
+        let enclosed = row-enclosed .losses R A B B≤1 wide in
+        record { answer-is = is; enclosed = enclosed; says = rw is (tranche-says (fine .positive) r (kept Low) (kept High) (within .complete) R A B wide enclosed) }
+
+-- A column that stands in a slice.
+pub column-holds : {off : Fraction} {r : Chances} {low : ℕ → Kept} {units : List ℕ}
+    → PrintsColumn off r (printedTail (r .assets) low) (printedRow (r .assets) low) → ((k : ℕ) → k ≤ r .assets → getD units k 0 ≡ printedRow (r .assets) low k)
+    → HoldsColumn off r low units
+column-holds {r} prints rows = record {
+  total = sum-cong (suc (r .assets)) (λ k l. rows k (omega arith)) ∙ prints .total;
+  difference = λ k l. rw (rows k l) (prints .difference k);
+  last = rows (r .assets) (le-refl (r .assets)) ∙ prints .last;
+  near = λ k l. rw (rows k l) (prints .near k l);
+}
