@@ -1,3 +1,3 @@
-pub mod Working
+pub mod Turns
 pub mod Store
 pub mod Filling

@@ -1,86 +1,70 @@
--- Numbers that are stored one after the other, and the rows of one side.
+-- The rows of one side of the store, one after the other.
 -- Assumes nothing.
-use Prim.Native.Nat.{ℕ, suc, _+_, _≤_, suc-le-suc}
+use Prim.Native.Nat.{ℕ, suc, _+_, _≤_, _<_, suc-le-suc}
 use mathlib.Core.Path.{_≡_, refl, ap₂}
-use mathlib.Core.List.{List, [], map-append, append-nil, append-assoc}
-use native.Mathlib.Nat.{add-zero, add-suc, add-assoc, le-trans}
+use mathlib.Core.List.{List}
+use native.Mathlib.Nat.{add-assoc}
 use native.Mathlib.Omega.{arith}
 use native.Mathlib.Numerals.{add-one}
-use lib.ListN.{getD, set, length-append, length-map, length-set}
+use lib.ListN.{length-set}
 use Rattle.model.specs.Number.{triangle}
 use Rattle.model.specs.Number.Laws.{triangle-mono}
 use Rattle.kept.specs.declared.Kept.{Kept}
 use Rattle.kept.specs.declared.Side.{Side}
-use Rattle.kept.specs.Rounding.{nought}
+use Rattle.kept.specs.Rounding.{unity}
 use Rattle.steps.specs.CorrelatedBinomial.Rows.{keptRow}
 use Rattle.steps.specs.Inputs.{workingAssets}
-use Rattle.rows.specs.Working.{workingPlaces, Entries}
-use Rattle.rows.specs.Working.Laws.{entries-less}
-use Rattle.rows.specs.Store.{tabulate, rowsBefore, stored, SideStore, sideStore, filledSide}
-use Rattle.rows.specs.Store.Laws.{overwritten-none, overwritten-more, rows-length}
-use Rattle.rows.specs.Filling.{HasPlaces, SameLengths, Holding, Storable, Stored, Fillable, Filled}
+use Rattle.working.specs.Working.{workingPlaces, Entries}
+use Rattle.working.specs.Slices.{SideStore, sideStore, withNumber, HasPlaces, SameLengths, Holding, Stored}
+use Rattle.working.specs.Slices.Laws.{holding-none}
+use Rattle.rows.specs.Turns.Rows.{first-stored}
+use Rattle.rows.specs.Store.{rowsBefore, stored, filledSide}
+use Rattle.rows.specs.Filling.{Fillable, Filled}
 
-pub stored-none : {row : List Kept} {at : ℕ} {h : SideStore} → Stored row 0 at h h
-unfolding tabulate
-stored-none {at} = record {
-  lengths = record { significands = refl; exponents = refl };
-  holding = λ entries holding. rw (append-nil, add-zero at) holding;
-}
+pub fillable-first : {n p ρ : ℕ} {h : SideStore} → Fillable n p ρ h → HasPlaces 1 h
+unfolding triangle
+fillable-first fillable = record { significands = omega arith; exponents = omega arith }
 
-pub stored-more : {row : List Kept} {j at : ℕ} {h h′ : SideStore} → Stored row j at h h′ → HasPlaces (at + (j + 1)) h
-    → Stored row (j + 1) at h
-    (sideStore (set (h′ .significands) (at + j) (getD row j nought .significand)) (set (h′ .exponents) (at + j) (getD row j nought .exponent)))
-unfolding tabulate
-stored-more {j} {at} stored room =
-    let lengths = stored .lengths in
-    record {
-      lengths = record { significands = rw length-set (lengths .significands); exponents = rw length-set (lengths .exponents) };
-      holding = λ entries holding.
-          let before = stored .holding (entries-less (omega arith) entries) holding in
-          rw (entries .entry nought j (omega arith), add-one j, add-suc at j, ← append-assoc) (record {
-            place = rw (length-append, before .place) (add-one (at + j));
-            significands = rw map-append (overwritten-more _ _ _ (before .significands) (rw length-map (before .place)) (omega arith));
-            exponents = rw map-append (overwritten-more _ _ _ (before .exponents) (rw length-map (before .place)) (omega arith));
-          });
-    }
-
--- Rows 0 to k − 1 are stored, in h′ where it was h, and row k goes to the place `at`.
+-- Rows 0 to k are stored, row k from the place `at` on, in h′ where row 0 was stored in h.
 pub record Filling (side : Side) (n p ρ k at : ℕ) (h h′ : SideStore) : Type 0 where
-  pub fillable : Fillable n p ρ h
+  pub room : HasPlaces (triangle (suc n)) h
+  pub place : at ≡ triangle k
   pub lengths : SameLengths h h′
-  pub holding : Holding (rowsBefore side p ρ k) at h h′
+  pub holding : {old : SideStore} → Holding (rowsBefore side p ρ 1) 1 old h → Holding (rowsBefore side p ρ (suc k)) (at + suc k) old h′
 
-pub filling-none : {side : Side} {n p ρ : ℕ} {h : SideStore} → Fillable n p ρ h → Filling side n p ρ 0 0 h h
-unfolding rowsBefore
-filling-none fillable = record {
-  fillable = fillable;
+pub filling-none : {side : Side} {n p ρ : ℕ} {old h : SideStore} → Fillable n p ρ old → h ≡ withNumber unity 0 old → Filling side n p ρ 0 0 h h
+unfolding triangle
+filling-none fillable first = record {
+  room = rw first (record { significands = rw length-set (fillable .room .significands); exponents = rw length-set (fillable .room .exponents) });
+  place = refl;
   lengths = record { significands = refl; exponents = refl };
-  holding = record { place = refl; significands = overwritten-none _; exponents = overwritten-none _ };
+  holding = λ first. first;
 }
 
 module _ {side : Side} {n p ρ k at : ℕ} {h h′ : SideStore} (filling : Filling side n p ρ k at h h′) where
-  -- Row k has its places, and they are low.
-  pub filling-room : k ≤ n → Storable (k + 1) at h′ × (at ≤ triangle workingAssets)
-  unfolding workingPlaces triangle
-  filling-room l =
-      let place : at ≡ triangle k = rw (← filling .holding .place) (rows-length side p ρ k) in
-      let below = triangle-mono (suc-le-suc l) in
-      let low = triangle-mono (le-trans l (filling .fillable .range .assets)) in
-      (record { places = omega arith; room = record { significands = omega arith; exponents = omega arith } }, omega arith)
+  -- Row k + 1 has its places.
+  pub filling-room : k < n → HasPlaces (at + k + 1 + suc (suc k)) h′
+  unfolding triangle
+  filling-room l = let below = triangle-mono (suc-le-suc l) in record { significands = omega arith; exponents = omega arith }
 
-  pub filling-more : {h″ : SideStore} {w : List Kept} → Entries workingPlaces (suc k) w (keptRow side p ρ k) → Stored w (k + 1) at h′ h″
-      → Filling side n p ρ (k + 1) (at + k + 1) h h″
-  unfolding rowsBefore
-  filling-more entries stored =
-      rw (add-assoc at k 1, add-one k) (record {
-        fillable = filling .fillable;
-        lengths = record { significands = omega arith; exponents = omega arith };
-        holding = (rw (add-one k) at stored) .holding entries (filling .holding);
-      })
+  pub filling-low : k ≤ workingAssets → at ≤ triangle workingAssets
+  filling-low l = rw (filling .place) (triangle-mono l)
 
-pub filling-all : {side : Side} {n p ρ at : ℕ} {h h′ : SideStore} {w : List Kept} → Filling side n p ρ (n + 1) at h h′
-    → Entries workingPlaces (suc n) w (keptRow side p ρ n) → Filled side n p ρ h h′ w
-unfolding filledSide stored
-filling-all {n} filling entries =
-    let holding = (rw (add-one n) at filling) .holding in
-    record { store-is = ap₂ sideStore (holding .significands) (holding .exponents); last = entries }
+  pub filling-more : {to : ℕ} {h″ : SideStore} → to ≡ at + k + 1 → Stored (keptRow side p ρ (k + 1)) (suc (k + 1)) to h′ h″
+      → Filling side n p ρ (k + 1) to h h″
+  unfolding rowsBefore triangle
+  filling-more next stored = record {
+    room = filling .room;
+    place = rw (add-one k) (omega arith);
+    lengths = record { significands = omega arith; exponents = omega arith };
+    holding = λ first.
+        stored .holding {numbers = rowsBefore side p ρ (k + 1)}
+        (rw (next, add-assoc at k 1, add-one k) (filling .holding first));
+  }
+
+  pub filling-all : {old : SideStore} {row : List Kept} → Fillable n p ρ old → h ≡ withNumber unity 0 old → k ≡ n
+      → Entries workingPlaces (suc n) row (keptRow side p ρ n) → Filled side n p ρ old h′ row
+  unfolding filledSide stored rowsBefore
+  filling-all {old} fillable first all entries =
+      let holding = filling .holding {old = old} (rw first (first-stored side p ρ (fillable-first fillable) .holding holding-none)) in
+      record { store-is = rw (← all) (ap₂ sideStore (holding .significands) (holding .exponents)); last = entries }
