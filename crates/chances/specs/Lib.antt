@@ -1,4 +1,4 @@
-pub mod Binomials
+pub mod Counts
 pub mod Chances
 pub mod Tails
 pub mod Loss

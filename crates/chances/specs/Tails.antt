@@ -1,35 +1,73 @@
--- Step 5 and the printed column over a working row of chances of the low side.
+-- Step 5 and the printed column over a working row.
 -- Assumes nothing.
-use Prim.Native.Nat.{ℕ, suc, _≤_}
+use Prim.Native.Nat.{ℕ, zero, suc, _+_, _-_, _≤_}
 use mathlib.Core.Path.{_≡_}
 use mathlib.Core.List.{List}
-use Rattle.model.specs.Fraction.{AtMost, certainty}
+use lib.ListN.{getD}
+use Rattle.model.specs.Fraction.{AtMost, integer}
 use Rattle.kept.specs.declared.Kept.{Kept}
+use Rattle.kept.specs.declared.Side.{Side}
 use Rattle.kept.specs.declared.Side.the-variants.{Low}
-use Rattle.kept.specs.Rounding.{value}
-use Rattle.steps.specs.Chances.{keptTail}
+use Rattle.kept.specs.Rounding.{IsKept, value}
+use Rattle.steps.specs.Chances.{keptChances, keptTail}
 use Rattle.steps.specs.Column.{printedTail, printedRow}
-use Rattle.steps.specs.Exponents.{Ranged, TailNumber}
+use Rattle.steps.specs.Exponents.{Ranged}
+use Rattle.steps.specs.Numbers.{TailNumber}
 use Rattle.steps.specs.Inputs.{workingAssets}
-use Rattle.rows.specs.Working.{workingPlaces, Entries}
-use Rattle.rows.specs.Store.{tabulate, overwritten}
+use Rattle.working.specs.Working.{workingPlaces, Entries}
+use Rattle.working.specs.Slices.{tabulate, overwritten}
+use Rattle.chances.specs.Chances.{StepsReady}
 pub mod Laws
-pub mod Units
 
--- What step 5 asks of the chances: they and their tails have exponents in their range, no tail is above one, and the printed tails do not grow.
-pub record TailsReady (n : ℕ) (chances : List Kept) : Type 0 where
+-- The tails at 0 to n + 1 stand in a row that has one place more than a working row.
+abbrev pub Tails : {A : Type 0} (n : ℕ) → List A → (ℕ → A) → Type 0
+Tails n row f = Entries (suc workingPlaces) (suc (suc n)) row f
+
+-- What step 5 asks of chances: they and their tails have exponents in their range.
+pub record TailsReady (side : Side) (n : ℕ) (chances : List Kept) : Type 0 where
   pub assets : n ≤ workingAssets
   pub chance : ℕ → Kept
   pub entries : Entries workingPlaces (suc n) chances chance
   pub chance-ranged : (j : ℕ) → j ≤ n → Ranged (chance j)
-  pub ranged : {x : Kept} → TailNumber Low n chance x → Ranged x
-  pub at-most-one : (k : ℕ) → AtMost (value (keptTail Low n chance k)) certainty
-  pub falls : (k : ℕ) → printedTail n chance (suc k) ≤ printedTail n chance k
+  pub ranged : {x : Kept} → TailNumber side n chance x → Ranged x
 
--- The printed tails at 0 to n + 1.
-pub record TailsPrinted (n : ℕ) (chances : List Kept) (tails : List ℕ) : Type 0 where
-  pub tails-are : (c : ℕ → Kept) → Entries workingPlaces (suc n) chances c → Entries (suc workingPlaces) (suc (suc n)) tails (printedTail n c)
+-- What it leaves: the tails.
+pub record TailsMade (side : Side) (n : ℕ) (chances tails : List Kept) : Type 0 where
+  pub tails-are : (c : ℕ → Kept) → Entries workingPlaces (suc n) chances c → Tails n tails (keptTail side n c)
 
--- Rows 0 to n in a slice that held `old`.
-pub record RowsPrinted (n : ℕ) (chances : List Kept) (old new : List ℕ) : Type 0 where
-  pub rows : (c : ℕ → Kept) → Entries workingPlaces (suc n) chances c → new ≡ overwritten (tabulate (suc n) (printedRow n c)) old
+-- What printing asks of the tails of the low side: kept numbers of at most two.
+pub record Printable (n : ℕ) (tails : List Kept) : Type 0 where
+  pub assets : n ≤ workingAssets
+  pub tail : ℕ → Kept
+  pub entries : Tails n tails tail
+  pub kept : (k : ℕ) → k ≤ suc n → IsKept (tail k)
+  pub at-most-two : (k : ℕ) → k ≤ suc n → AtMost (value (tail k)) (integer 2)
+
+-- What it leaves: the printed tails.
+pub record TailsPrinted (n : ℕ) (tails : List Kept) (printed : List ℕ) : Type 0 where
+  pub printed-are : (c : ℕ → Kept) → Tails n tails (keptTail Low n c) → Tails n printed (printedTail n c)
+
+-- Printed tails that do not grow.
+pub record Falling (n : ℕ) (printed : List ℕ) : Type 0 where
+  pub assets : n ≤ workingAssets
+  pub falls : (k : ℕ) → k ≤ n → getD printed (k + 1) 0 ≤ getD printed k 0
+
+-- Rows 0 to n in a slice that held `old`: each is what its printed tail has more than the next.
+pub record RowsPrinted (n : ℕ) (printed old new : List ℕ) : Type 0 where
+  pub rows : new ≡ overwritten (tabulate (suc n) (λ k. getD printed k 0 - getD printed (k + 1) 0)) old
+
+-- ---- the column of a row
+
+-- What it asks of row n of the low side: no tail is above two, and the printed tails do not grow.
+pub record ColumnReady (n : ℕ) (row : List Kept) : Type 0 where
+  pub steps : StepsReady Low n row
+  pub at-most-two : (k : ℕ) → AtMost (value (keptTail Low n (keptChances Low n (steps .entry)) k)) (integer 2)
+  pub falls : (k : ℕ) → printedTail n (keptChances Low n (steps .entry)) (suc k) ≤ printedTail n (keptChances Low n (steps .entry)) k
+
+-- A slice of units after a call for n assets with the chances c of the low side: rows 0 to n of the column, then what stood there; untouched on a refusal.
+unfoldable pub unitsAfter : (n : ℕ) (c : ℕ → Kept) (refusal : ℕ) → List ℕ → List ℕ
+unitsAfter n c zero units = overwritten (tabulate (suc n) (printedRow n c)) units
+unitsAfter n c (suc r) units = units
+
+pub record ColumnPrinted (n : ℕ) (row : List Kept) (old new : List ℕ) : Type 0 where
+  pub units-are : (entry : ℕ → Kept) → Entries workingPlaces (suc n) row entry → new ≡ unitsAfter n (keptChances Low n entry) 0 old

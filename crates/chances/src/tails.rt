@@ -1,55 +1,76 @@
-// The printed column: its rows are differences of tails in whole units.
+// Tails, and the printed column: its rows are differences of tails in whole units.
+use crate::chances;
 use kept::Kept;
 use kept::Side;
 use model::UNITS;
-use rows::PLACES;
+use working::PLACES;
 ghost use mathlib.Core.Path.{_≡_};
 ghost use Prim.Native.Nat.{_<_};
 ghost use lib.ListN.{length};
-ghost use Rattle.model.specs.Fraction.{AtMost, certainty};
+ghost use Rattle.model.specs.Fraction.{AtMost, integer};
 ghost use Rattle.kept.specs.Rounding.{IsKept, value};
 ghost use Rattle.steps.specs.Column.{inUnits};
-ghost use Rattle.chances.specs.Tails.{TailsReady, TailsPrinted, RowsPrinted};
+ghost use Rattle.chances.specs.Tails.{TailsReady, TailsMade, Printable, TailsPrinted, Falling, RowsPrinted, ColumnReady, ColumnPrinted};
 
 // The tails at 0 to n, and that past n.
-const TAILS: usize = PLACES + 1;
+pub const TAILS: usize = PLACES + 1;
 
-// A number of at most one in units, rounded down. With 64 binary places or more it is below 2^−32 and has no whole unit.
-fn in_units(x: Kept) -> u32
-    requires { ⌜ IsKept x ⌝ ∗ ⌜ AtMost (value x) certainty ⌝ }
-    ensures { λ r. ⌜ r ≡ inUnits x ⌝ }
+// The tails of one side at 0 to n + 1. Starting from zero, the chances are added from n defaults down.
+pub fn tails(n: u32, chances: [Kept; PLACES], side: Side) -> [Kept; TAILS]
+    requires { ⌜ TailsReady side n chances ⌝ }
+    ensures { λ r. ⌜ TailsMade side n chances r ⌝ }
 {
-    if x.exponent < -63 {
-        return 0;
+    let zero = Kept::zero();
+    let mut tails = [zero; TAILS];
+    let mut total = zero;
+    let places = n as usize + 1;
+    for i in 0..places {
+        let j = n as usize - i;
+        total = total.sum(chances[j], side);
+        tails[j] = total;
     }
-    ((x.significand as u64 * UNITS as u64) >> (0 - x.exponent) as u32) as u32
-}
-
-// The printed tails at 0 to n + 1.
-fn printed_tails(n: u32, chances: [Kept; PLACES]) -> [u32; TAILS]
-    requires { ⌜ TailsReady n chances ⌝ }
-    ensures { λ r. ⌜ TailsPrinted n chances r ⌝ }
-{
-    let mut tails = [0u32; TAILS];
-    let mut total = Kept::zero();
-    let last = n as usize;
-    for i in 0..last {
-        let j = last - i;
-        total = total.sum(chances[j], Side::Low);
-        tails[j] = in_units(total);
-    }
-    tails[0] = UNITS;
     tails
 }
 
-// Rows 0 to n, from the chances of the low side, into the start of the slice.
-pub fn print_rows(n: u32, chances: [Kept; PLACES], units: &mut [u32])
-    requires { ⌜ TailsReady n chances ⌝ ∗ ⌜ n < length (now units) ⌝ }
-    ensures { λ _. ⌜ RowsPrinted n chances (now (units .entry)) (now (units .exit)) ⌝ }
+// A number of at most two in whole units, rounded down.
+fn in_units(x: Kept) -> u32
+    requires { ⌜ IsKept x ⌝ ∗ ⌜ AtMost (value x) (integer 2) ⌝ }
+    ensures { λ r. ⌜ r ≡ inUnits x ⌝ }
 {
-    let tails = printed_tails(n, chances);
+    x.times_whole(UNITS, Side::Low) as u32
+}
+
+// The printed tails at 0 to n + 1, from the tails of the low side. That at 0 is certainty.
+pub fn printed_tails(n: u32, tails: [Kept; TAILS]) -> [u32; TAILS]
+    requires { ⌜ Printable n tails ⌝ }
+    ensures { λ r. ⌜ TailsPrinted n tails r ⌝ }
+{
+    let mut printed = [UNITS; TAILS];
+    let end = n as usize + 2;
+    for k in 1..end {
+        printed[k] = in_units(tails[k]);
+    }
+    printed
+}
+
+// Rows 0 to n, from the printed tails, into the start of the slice.
+fn print_rows(n: u32, printed: [u32; TAILS], units: &mut [u32])
+    requires { ⌜ Falling n printed ⌝ ∗ ⌜ n < length (now units) ⌝ }
+    ensures { λ _. ⌜ RowsPrinted n printed (now (units .entry)) (now (units .exit)) ⌝ }
+{
     let places = n as usize + 1;
     for k in 0..places {
-        units[k] = tails[k] - tails[k + 1];
+        units[k] = printed[k] - printed[k + 1];
     }
+}
+
+// The column of row n of the low side, into the start of the slice.
+pub fn print_column(n: u32, row: [Kept; PLACES], units: &mut [u32])
+    requires { ⌜ ColumnReady n row ⌝ ∗ ⌜ n < length (now units) ⌝ }
+    ensures { λ _. ⌜ ColumnPrinted n row (now (units .entry)) (now (units .exit)) ⌝ }
+{
+    let low = chances(n, row, Side::Low);
+    let low_tails = tails(n, low, Side::Low);
+    let printed = printed_tails(n, low_tails);
+    print_rows(n, printed, units);
 }

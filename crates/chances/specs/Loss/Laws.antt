@@ -13,12 +13,12 @@ use Rattle.model.specs.Chances.Laws.{loss-units-whole, tranche-wide}
 use Rattle.kept.specs.declared.Kept.{Kept}
 use Rattle.kept.specs.declared.Side.{Side}
 use Rattle.kept.specs.Rounding.{Operand, ofInteger, roundedProduct, roundedSum, roundedQuotient}
-use Rattle.steps.specs.Chances.{keptTotal, keptTerm, keptLoss}
-use Rattle.steps.specs.Exponents.{is-units, is-term, is-total}
+use Rattle.steps.specs.Chances.{keptTotal, keptChances, keptTerm, keptLoss}
 use Rattle.steps.specs.Exponents.Laws.{ranged-operand}
-use Rattle.rows.specs.Working.{workingPlaces, Entries}
+use Rattle.steps.specs.Numbers.{is-chance, is-units, is-term, is-total, of-chances, of-losses}
+use Rattle.working.specs.Working.{workingPlaces, Entries}
 use Rattle.chances.specs.Chances.Laws.{entry-operand}
-use Rattle.chances.specs.Loss.{LossReady, LossMade}
+use Rattle.chances.specs.Loss.{LossReady, LossMade, BoundReady}
 
 -- ---- loss units
 
@@ -80,3 +80,21 @@ module _
       → LossMade side n chances R A B r
   unfolding keptLoss
   loss-made all quotient = record { loss = λ c e wide. rw (quotient wide, done .terms c e, all) }
+
+-- ---- from the entries of a row
+
+-- The chances that step 4 makes.
+pub loss-ready : {side : Side} {n : ℕ} {row c : List Kept} {R A B : ℕ} (ready : BoundReady side n row R A B)
+    → Entries workingPlaces (suc n) c (keptChances side n (ready .steps .entry)) → LossReady side n c R A B
+unfolding keptChances
+loss-ready {side} {n} {R} {A} {B} ready made =
+    let steps = ready .steps in
+    record {
+      assets = steps .assets;
+      not-empty = ready .not-empty;
+      tranche = ready .tranche;
+      chance = keptChances side n (steps .entry);
+      entries = made;
+      chance-ranged = λ j l. steps .ranged (of-chances (is-chance j l));
+      ranged = λ number. steps .ranged (of-losses R A B (ready .tranche .upper) number);
+    }

@@ -1,137 +1,195 @@
--- The printed tails and rows, place by place.
+-- Tails, printed tails and rows, place by place.
 -- Assumes nothing.
-use Prim.Native.Nat.{ℕ, zero, suc, _+_, _-_, _≤_, _<_}
-use mathlib.Core.Path.{_≡_, sym, _∙_}
+use Prim.Native.Nat.{ℕ, zero, suc, _+_, _-_, _^_, _≤_, _<_}
+use mathlib.Core.Path.{_≡_, refl, ap, _∙_}
 use mathlib.Core.List.{List}
 use native.Mathlib.Decide.{decLe}
 use native.Mathlib.Numerals.{add-one}
 use native.Mathlib.Omega.{arith}
 use lib.ListN.{length, getD, set, replicate, length-set, length-replicate, getD-replicate}
-use lib.Seq.{getD-set-same, getD-set-other, getD-append-add, getD-drop, ext-getD}
-use Rattle.model.specs.Fraction.{AtMost, certainty}
+use lib.Seq.{getD-set-same, getD-set-other}
+use Rattle.model.specs.Fraction.{AtMost, integer, times}
 use Rattle.kept.specs.declared.Kept.{Kept}
+use Rattle.kept.specs.declared.Side.{Side}
 use Rattle.kept.specs.declared.Side.the-variants.{Low}
-use Rattle.kept.specs.Rounding.{IsKept, Operand, scaled, value, nought, roundedSum}
-use Rattle.steps.specs.Chances.{keptTotal, keptTail}
-use Rattle.steps.specs.Column.{unitsOfCertainty, inUnits, printedTail, printedRow}
-use Rattle.steps.specs.Exponents.{is-tail}
+use Rattle.kept.specs.Rounding.{IsKept, Operand, value, nought, roundedSum}
+use Rattle.kept.specs.Whole.Laws.{whole-at-most}
+use Rattle.steps.specs.Chances.{keptTotal, keptChances, keptTail}
+use Rattle.steps.specs.Column.{unitsOfCertainty, exactUnits, inUnits, printedTail, printedRow}
 use Rattle.steps.specs.Exponents.Laws.{ranged-operand}
-use Rattle.rows.specs.Working.{workingPlaces, Entries}
-use Rattle.rows.specs.Working.Laws.{Changed}
-use Rattle.rows.specs.Store.{tabulate, overwritten}
-use Rattle.rows.specs.Store.Laws.{length-tabulate, getD-tabulate, overwritten-at, overwritten-length}
+use Rattle.steps.specs.Numbers.{is-chance, is-tail, of-chances, of-tails}
+use Rattle.working.specs.Working.{workingPlaces, Entries}
+use Rattle.working.specs.Working.Laws.{entries-more, Changed}
+use Rattle.working.specs.Slices.{tabulate, overwritten}
+use Rattle.working.specs.Slices.Laws.{changed-overwritten}
+use Rattle.chances.specs.Chances.{StepsReady}
 use Rattle.chances.specs.Chances.Laws.{entry-operand}
-use Rattle.chances.specs.Tails.{TailsReady, TailsPrinted, RowsPrinted}
+use Rattle.chances.specs.Tails.{Tails, TailsReady, TailsMade, Printable, TailsPrinted, Falling, RowsPrinted, ColumnReady, unitsAfter}
 
 -- ---- tails
 
--- The tails past n − i are stored, and the total is the first of them, not yet in units.
-pub record TailsPast (n i : ℕ) (chances : List Kept) (total : Kept) (tails : List ℕ) : Type 0 where
-  pub ready : TailsReady n chances
-  pub within : i ≤ n
+-- The tails past n − i are stored, and the total is the first of them.
+pub record TailsPast (side : Side) (n i : ℕ) (chances : List Kept) (total : Kept) (tails : List Kept) : Type 0 where
+  pub ready : TailsReady side n chances
+  pub within : i ≤ suc n
   pub places-are : length tails ≡ suc workingPlaces
-  pub total-is : (c : ℕ → Kept) → Entries workingPlaces (suc n) chances c → total ≡ keptTotal Low (λ m. c (n - m)) i
+  pub total-is : (c : ℕ → Kept) → Entries workingPlaces (suc n) chances c → total ≡ keptTotal side (λ m. c (n - m)) i
   pub tail : (c : ℕ → Kept) → Entries workingPlaces (suc n) chances c
-      → (d k : ℕ) → n < k + i → k ≤ suc n → getD tails k d ≡ inUnits (keptTail Low n c k)
+      → (d : Kept) (k : ℕ) → n < k + i → k ≤ suc n → getD tails k d ≡ keptTail side n c k
 
-pub tails-none : {n : ℕ} {chances : List Kept} {total : Kept} → TailsReady n chances → total ≡ nought
-    → TailsPast n 0 chances total (replicate (suc workingPlaces) 0)
-unfolding keptTotal keptTail workingPlaces nought inUnits scaled unitsOfCertainty
-tails-none {n} ready none = record {
+pub tails-none : {side : Side} {n : ℕ} {chances : List Kept} {zero : Kept} → TailsReady side n chances → zero ≡ nought
+    → TailsPast side n 0 chances zero (replicate (suc workingPlaces) zero)
+unfolding keptTotal keptTail workingPlaces
+tails-none {n} {zero} ready none = record {
   ready = ready;
   within = omega arith;
-  places-are = length-replicate (suc workingPlaces) 0;
+  places-are = length-replicate (suc workingPlaces) zero;
   total-is = λ c e. none;
   tail = λ c e d k past most.
       let no-terms : suc n - k ≡ 0 = omega arith in
-      rw no-terms (getD-replicate (suc workingPlaces) k 0 d (omega (arith, ready .assets)));
+      rw no-terms (getD-replicate (suc workingPlaces) k zero d (omega (arith, ready .assets)) ∙ none);
 }
 
-module _ {n i : ℕ} {chances : List Kept} {total : Kept} {tails : List ℕ} (done : TailsPast n i chances total tails) where
-  module _ (l : i < n) (d : Kept) where
+module _ {side : Side} {n i : ℕ} {chances : List Kept} {total : Kept} {tails : List Kept} (done : TailsPast side n i chances total tails) where
+  module _ (l : i ≤ n) (d : Kept) where
     pub tail-operands : Operand total × Operand (getD chances (n - i) d)
     tail-operands = (
       rw (done .total-is _ (done .ready .entries)) (ranged-operand (done .ready .ranged (is-tail i (omega arith)))),
       entry-operand (done .ready .entries) (done .ready .chance-ranged) d (n - i) (omega arith),
     )
 
-    module _ {x : Kept} (sum : x ≡ roundedSum Low total (getD chances (n - i) d)) where
-      next-total : (c : ℕ → Kept) → Entries workingPlaces (suc n) chances c → x ≡ keptTotal Low (λ m. c (n - m)) (suc i)
+    module _ {x : Kept} (sum : x ≡ roundedSum side total (getD chances (n - i) d)) where
+      next-total : (c : ℕ → Kept) → Entries workingPlaces (suc n) chances c → x ≡ keptTotal side (λ m. c (n - m)) (suc i)
       unfolding keptTotal
       next-total c e = rw (sum, done .total-is c e, e .entry d (n - i) (omega arith))
 
-      next-tail : (c : ℕ → Kept) → Entries workingPlaces (suc n) chances c → x ≡ keptTail Low n c (n - i)
+      next-tail : (c : ℕ → Kept) → Entries workingPlaces (suc n) chances c → x ≡ keptTail side n c (n - i)
       unfolding keptTail
       next-tail c e = let many : suc n - (n - i) ≡ suc i = omega arith in rw many (next-total c e)
 
-      pub tail-printable : IsKept x × AtMost (value x) certainty
-      tail-printable = (
-        rw (next-total _ (done .ready .entries)) (done .ready .ranged (is-tail (suc i) (omega arith)) .kept),
-        rw (next-tail _ (done .ready .entries)) (done .ready .at-most-one (n - i)),
-      )
-
-      pub tail-more : {u : ℕ} → u ≡ inUnits x → TailsPast n (i + 1) chances x (set tails (n - i) u)
+      pub tail-more : TailsPast side n (i + 1) chances x (set tails (n - i) x)
       unfolding workingPlaces
-      tail-more {u} units = rw (add-one i) (record {
+      tail-more = rw (add-one i) (record {
         ready = done .ready;
-        within = l;
-        places-are = length-set tails (n - i) u ∙ done .places-are;
+        within = omega arith;
+        places-are = length-set tails (n - i) x ∙ done .places-are;
         total-is = next-total;
         tail = λ c e d k past most. elim (decLe k (n - i)) [
           | yes at ↦
               let here : k ≡ n - i = omega arith in
-              rw here (getD-set-same tails (n - i) u d (omega (arith, done .places-are, done .ready .assets)) ∙ rw (units, next-tail c e))
-          | no at ↦ getD-set-other tails (n - i) k u d (λ here. omega arith) ∙ done .tail c e d k (omega arith) most
+              rw here (getD-set-same tails (n - i) x d (omega (arith, done .places-are, done .ready .assets)) ∙ next-tail c e)
+          | no at ↦ getD-set-other tails (n - i) k x d (λ here. omega arith) ∙ done .tail c e d k (omega arith) most
         ];
       })
 
-  -- The tail at 0 is stored last.
-  pub tails-all : i ≡ n → TailsPrinted n chances (set tails 0 unitsOfCertainty)
-  unfolding printedTail
+  pub tails-all : i ≡ suc n → TailsMade side n chances tails
   tails-all all = record {
-    tails-are = λ c e. record {
-      places-are = length-set tails 0 unitsOfCertainty ∙ done .places-are;
-      entry = λ d k. elim k [
-        | zero ↦ λ l. getD-set-same tails 0 unitsOfCertainty d (omega (arith, done .places-are))
-        | suc k ↦ λ l. getD-set-other tails 0 (suc k) unitsOfCertainty d (λ e. omega arith) ∙ done .tail c e d (suc k) (omega arith) (omega arith)
-      ];
-    };
+    tails-are = λ c e. record { places-are = done .places-are; entry = λ d k l. done .tail c e d k (omega arith) (omega arith) };
   }
+
+-- ---- printed tails
+
+-- A number of at most two in units is at most 200,000.
+pub units-word : (x : Kept) → AtMost (value x) (integer 2) → inUnits x < 2 ^ 32
+unfolding inUnits exactUnits unitsOfCertainty times integer
+units-word x le =
+    let most : AtMost (exactUnits (value x)) (integer 200000) = record { cross = omega (arith, le .cross) } in
+    omega (arith, whole-at-most Low most)
+
+-- The printed tails below k are stored.
+pub record PrintedBelow (n k : ℕ) (tails : List Kept) (printed : List ℕ) : Type 0 where
+  pub ready : Printable n tails
+  pub from : 1 ≤ k
+  pub within : k ≤ suc (suc n)
+  pub made : (c : ℕ → Kept) → Tails n tails (keptTail Low n c) → Entries (suc workingPlaces) k printed (printedTail n c)
+
+pub printed-none : {n : ℕ} {tails : List Kept} → Printable n tails → PrintedBelow n 1 tails (replicate (suc workingPlaces) unitsOfCertainty)
+unfolding workingPlaces printedTail
+printed-none ready = record {
+  ready = ready;
+  from = omega arith;
+  within = omega arith;
+  made = λ c e. record {
+    places-are = length-replicate (suc workingPlaces) unitsOfCertainty;
+    entry = λ d j l. let first : j ≡ 0 = omega arith in rw first refl;
+  };
+}
+
+module _ {n k : ℕ} {tails : List Kept} {printed : List ℕ} (done : PrintedBelow n k tails printed) where
+  module _ (l : k ≤ suc n) (d : Kept) where
+    pub printable-tail : IsKept (getD tails k d) × AtMost (value (getD tails k d)) (integer 2)
+    printable-tail = rw (done .ready .entries .entry d k (omega arith)) (done .ready .kept k l, done .ready .at-most-two k l)
+
+    pub printed-more : {u : ℕ} → u ≡ inUnits (getD tails k d) → PrintedBelow n (k + 1) tails (set printed k u)
+    unfolding workingPlaces
+    printed-more units = record {
+      ready = done .ready;
+      from = omega arith;
+      within = omega arith;
+      made = λ c e. entries-more (done .made c e) (omega (arith, done .ready .assets)) (rw (units, e .entry d k (omega arith)) (past-first c k (done .from)));
+    }
+      where
+        past-first : (c : ℕ → Kept) (k : ℕ) → 1 ≤ k → inUnits (keptTail Low n c k) ≡ printedTail n c k
+        past-first c zero l = absurd (omega arith)
+        past-first c (suc k) l = unfold printedTail in refl
+
+  pub printed-all : k ≡ suc (suc n) → TailsPrinted n tails printed
+  printed-all all = record { printed-are = rw all at (done .made) }
 
 -- ---- rows
 
 -- What the tail at k has more than the next.
 abbrev pub differenceAt : List ℕ → ℕ → ℕ
-differenceAt tails k = getD tails k 0 - getD tails (k + 1) 0
+differenceAt printed k = getD printed k 0 - getD printed (k + 1) 0
 
--- A slice whose first m places are changed.
-changed-overwritten : {m : ℕ} (old : List ℕ) {new : List ℕ} {f g : ℕ → ℕ} → Changed (length old) (length old) m old new f → m ≤ length old
-    → ((i : ℕ) → i < m → f i ≡ g i) → new ≡ overwritten (tabulate m g) old
-unfolding overwritten
-changed-overwritten {m} old {new} {g} done l same =
-    let written : List ℕ = tabulate m g in
-    let long = length-tabulate m g in
-    let places = done .new .places-are in
-    ext-getD 0 new _ (places ∙ sym (overwritten-length written old (omega arith))) (λ i h. elim (decLe m i) [
-      | yes past ↦
-          let there : i ≡ length written + (i - m) = omega arith in
-          done .old 0 i past (omega arith) ∙ sym (rw (there, getD-append-add, getD-drop))
-      | no past ↦
-          let below : i < m = omega arith in
-          done .new .entry 0 i below ∙ same i below ∙ sym (overwritten-at written old i 0 (omega arith) ∙ getD-tabulate m g i 0 below)
-    ])
+pub rows-printed : {n k : ℕ} {printed old new : List ℕ} → Changed (length old) (length old) k old new (differenceAt printed) → k ≡ suc n → n < length old
+    → RowsPrinted n printed old new
+rows-printed {old} done all l = record { rows = changed-overwritten 0 old (rw all at done) l (λ k h. refl) }
 
-module _ {n : ℕ} {chances : List Kept} {tails : List ℕ} (printed : TailsPrinted n chances tails) where
-  pub tails-fall : TailsReady n chances → (k : ℕ) → k ≤ n → getD tails (k + 1) 0 ≤ getD tails k 0
-  tails-fall ready k l =
-      let tail = printed .tails-are _ (ready .entries) .entry 0 in
-      rw (add-one k, tail k (omega arith), tail (suc k) (omega arith)) (ready .falls k)
+-- ---- the column of a row
 
-  pub rows-printed : {k : ℕ} {old new : List ℕ} → Changed (length old) (length old) k old new (differenceAt tails) → k ≡ suc n → n < length old
-      → RowsPrinted n chances old new
-  unfolding printedRow
-  rows-printed {old} done all l = record {
-    rows = λ c e.
-        let tail = printed .tails-are c e .entry 0 in
-        changed-overwritten old (rw all at done) l (λ k h. rw (add-one k, tail k (omega arith), tail (suc k) (omega arith)));
+-- The tails of the chances that step 4 makes.
+pub tails-ready : {side : Side} {n : ℕ} {row c : List Kept} (ready : StepsReady side n row)
+    → Entries workingPlaces (suc n) c (keptChances side n (ready .entry)) → TailsReady side n c
+unfolding keptChances
+tails-ready {side} {n} ready made = record {
+  assets = ready .assets;
+  chance = keptChances side n (ready .entry);
+  entries = made;
+  chance-ranged = λ j l. ready .ranged (of-chances (is-chance j l));
+  ranged = λ number. ready .ranged (of-tails number);
+}
+
+module _ {n : ℕ} {row : List Kept} (ready : ColumnReady n row) where
+  abbrev chance : ℕ → Kept
+  chance = keptChances Low n (ready .steps .entry)
+
+  pub printable : {tails : List Kept} → Tails n tails (keptTail Low n (keptChances Low n (ready .steps .entry))) → Printable n tails
+  unfolding keptTail
+  printable made = record {
+    assets = ready .steps .assets;
+    tail = keptTail Low n chance;
+    entries = made;
+    kept = λ k l. ready .steps .ranged (of-tails (is-tail (suc n - k) (omega arith))) .kept;
+    at-most-two = λ k l. ready .at-most-two k;
   }
+
+  pub falling : {printed : List ℕ} → Tails n printed (printedTail n (keptChances Low n (ready .steps .entry))) → Falling n printed
+  falling made = record {
+    assets = ready .steps .assets;
+    falls = λ k l. rw (add-one k, made .entry 0 k (omega arith), made .entry 0 (suc k) (omega arith)) (ready .falls k);
+  }
+
+tabulate-same : {f g : ℕ → ℕ} (m : ℕ) → ((i : ℕ) → i < m → f i ≡ g i) → tabulate m f ≡ tabulate m g
+unfolding tabulate
+tabulate-same zero same = refl
+tabulate-same (suc m) same = rw (tabulate-same m (λ i l. same i (omega arith)), same m (omega arith))
+
+-- Rows from printed tails are those of the column.
+pub rows-are : {n : ℕ} (c : ℕ → Kept) {printed old new : List ℕ} → Tails n printed (printedTail n c) → RowsPrinted n printed old new
+    → new ≡ unitsAfter n c 0 old
+unfolding unitsAfter printedRow
+rows-are {n} c {old} made printed =
+    printed .rows
+    ∙ ap (λ rows. overwritten rows old)
+    (tabulate-same (suc n) (λ k l. rw (add-one k, made .entry 0 k (omega arith), made .entry 0 (suc k) (omega arith))))

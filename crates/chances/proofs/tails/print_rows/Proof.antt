@@ -1,20 +1,20 @@
--- `tails::print_rows` meets its contract. At the loop's head the first k differences of tails stand in the slice.
+-- `tails::print_rows` meets its contract. At the loop's head the first k differences of printed tails stand in the slice.
 -- Assumes nothing.
 use Prim.Native.Nat.{suc, _-_, _≤_}
 use mathlib.Core.Path.{refl}
 use native.Mathlib.Omega.{arith}
 use lib.ListN.{length}
 use Rattle.steps.specs.Inputs.{workingAssets}
-use Rattle.rows.specs.Working.Laws.{Changed, changed-none, changed-more}
-use Rattle.chances.specs.Tails.Laws.{differenceAt, tails-fall, rows-printed}
+use Rattle.working.specs.Working.Laws.{Changed, changed-none, changed-more}
+use Rattle.chances.specs.Tails.Laws.{differenceAt, rows-printed}
 use Rattle.chances.proofs.tails.print_rows.Statement.{statement}
 use Rattle.chances.proofs.tails.print_rows.Tie as tie
 
 abbrev Inv-loop : tie.InvT-loop
-Inv-loop n units₀ tails places k₀ units k = (k ≤ suc n) × Changed (length units₀) (length units₀) k units₀ units (differenceAt tails)
+Inv-loop n units₀ printed places k₀ units k = (k ≤ suc n) × Changed (length units₀) (length units₀) k units₀ units (differenceAt printed)
 
 abbrev μ-loop : tie.MeasureT-loop
-μ-loop n units₀ tails places k₀ units k = suc n - k
+μ-loop n units₀ printed places k₀ units k = suc n - k
 
 loop-again : tie.Need-loop-again Inv-loop μ-loop
 loop-again c = (omega arith, changed-more (c .before .loop .inv .1) (omega arith) refl)
@@ -24,10 +24,10 @@ unfolding workingAssets
 print-rows-spec =
     tie.close
     (tie.spec Inv-loop μ-loop
-    (λ c κs. c .before .pre .0) (λ c. omega arith) (λ c. (omega arith, changed-none refl)) (λ c. omega arith) (λ c. omega arith)
+    (λ c. omega arith) (λ c. (omega arith, changed-none refl)) (λ c. omega arith) (λ c. omega arith)
     (λ c. omega arith) (λ c. omega arith) (λ c. omega arith)
-    (λ c. tails-fall (c .before .before .printed-tails .ensures) (c .before .before .before .before .pre .0) _ (omega arith))
+    (λ c. c .before .before .pre .0 .falls _ (omega arith))
     (λ c. omega arith) (λ c. omega arith) (λ c. omega arith) (λ c. omega arith)
     loop-again
     (λ c. c .before .loop .inv .1 .new .places-are)
-    (λ c. rows-printed (c .before .before .printed-tails .ensures) (c .before .loop .inv .1) (omega arith) (omega arith)))
+    (λ c. rows-printed (c .before .loop .inv .1) (omega arith) (omega arith)))

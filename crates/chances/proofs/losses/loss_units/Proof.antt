@@ -1,4 +1,4 @@
--- `loss::loss_units` meets its contract. No product of basis points is above 10,000 × 10,000.
+-- `losses::loss_units` meets its contract. No product of basis points is above 10,000 × 10,000.
 -- Assumes nothing.
 use Prim.Native.Nat.{_-_, _*_}
 use mathlib.Core.Path.{_≡_, _∙_}
@@ -8,8 +8,8 @@ use Rattle.model.specs.Fraction.{whole, complement}
 use Rattle.model.specs.Chances.{lossUnits}
 use Rattle.steps.specs.Inputs.{workingAssets}
 use Rattle.chances.specs.Loss.Laws.{basis-points-word, loss-units-cut}
-use Rattle.chances.proofs.loss.loss_units.Statement.{statement}
-use Rattle.chances.proofs.loss.loss_units.Tie as tie
+use Rattle.chances.proofs.losses.loss_units.Statement.{statement}
+use Rattle.chances.proofs.losses.loss_units.Tie as tie
 
 -- The cut is the smaller of what is lost and what is lost at the upper attachment.
 units : (c : tie.Joined1)

@@ -1,4 +1,4 @@
--- `loss::expected_loss` meets its contract. At the loop's head the terms of fewer than x defaults are added.
+-- `losses::expected_loss` meets its contract. At the loop's head the terms of fewer than x defaults are added.
 -- Assumes nothing.
 use Prim.Native.Nat.{suc, _-_}
 use borrow.Author.Needs.{needs}
@@ -7,8 +7,8 @@ use Rattle.model.specs.Fraction.{whole}
 use Rattle.steps.specs.Chances.{keptTotal}
 use Rattle.steps.specs.Inputs.{workingAssets}
 use Rattle.chances.specs.Loss.Laws.{basis-points-word, LossBelow, product-operands, sum-operands, term-more, quotient-operands, loss-made}
-use Rattle.chances.proofs.loss.expected_loss.Statement.{statement}
-use Rattle.chances.proofs.loss.expected_loss.Tie as tie
+use Rattle.chances.proofs.losses.expected_loss.Statement.{statement}
+use Rattle.chances.proofs.losses.expected_loss.Tie as tie
 
 abbrev Inv-loop : tie.InvT-loop
 Inv-loop n recovery lower upper side chances total₀ end x₀ total x = LossBelow side n chances recovery lower upper x total
@@ -33,6 +33,9 @@ loop-again c =
     let kept = c .before .before .before .from-integer .ensures in
     term-more (units .before .before .loop .inv) (omega arith) (units .loss-units .ensures) kept _ (c .before .product .ensures) (c .sum .ensures)
 
+returns : tie.Need-returns Inv-loop μ-loop
+returns c = loss-made (c .before .before .loop .inv) (omega arith) (c .quotient .ensures)
+
 pub expected-loss-spec : {M : Type 1} → statement M
 unfolding workingAssets whole keptTotal
 expected-loss-spec =
@@ -49,4 +52,4 @@ expected-loss-spec =
     (λ c. omega arith)
     (λ c. record { fits = basis-points-word (omega arith) (omega arith) })
     (λ c κs. quotient-operands (c .before .loop .inv))
-    (λ c. loss-made (c .before .before .loop .inv) (omega arith) (c .quotient .ensures)))
+    returns)
