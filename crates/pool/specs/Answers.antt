@@ -1,17 +1,10 @@
--- The scope paper's number and values for each case of an answer.
+-- The scope paper's number for each case of an answer.
 -- Assumes nothing.
 use Prim.Native.Nat.{ℕ}
-use Rattle.steps.specs.Loss.{LossAnswer, untouched, faint, shown}
-use Rattle.pool.specs.declared.Loss.{Loss}
-use Rattle.pool.specs.declared.Loss.the-variants.{Untouched, Faint, Shown}
+use Rattle.steps.specs.Loss.{LossAnswer}
+use Rattle.chances.specs.Loss.{lossOf}
 use Rattle.pool.specs.declared.Answer.{Answer}
 use Rattle.pool.specs.declared.Answer.the-variants.{Refused, Answered}
-
--- A loss: no number, one, or the low and the high bound.
-unfoldable pub lossOf : Loss → LossAnswer
-lossOf Untouched = untouched
-lossOf (Faint x) = faint x
-lossOf (Shown b) = shown (b .low) (b .high)
 
 -- What the loss call answers: the number of a refusal, or a loss.
 pub data LossReply : Type 0 where

@@ -17,20 +17,21 @@ use lib.Ieee.{Float}
 use lib.Ieee.Exact.{HasValue}
 use Rattle.model.specs.Number.{sum}
 use Rattle.model.specs.Fraction.{Fraction, Same, AtMost, Less, integer, plus, times}
-use Rattle.model.specs.Chances.{chance, tail}
+use Rattle.model.specs.Chances.{chance, tail, expectedLoss}
 use Rattle.model.specs.CorrelatedBinomial.{probability, defaults}
 use Rattle.kept.specs.declared.Kept.{Kept}
 use Rattle.kept.specs.declared.Side.{Side}
 use Rattle.kept.specs.declared.Side.the-variants.{Low, High}
 use Rattle.kept.specs.Rounding.{scaled, value, nought}
 use Rattle.steps.specs.CorrelatedBinomial.Rows.{keptRow}
-use Rattle.steps.specs.CorrelatedBinomial.{keptDefaults, keptPoolTail, keptPoolLoss, poolLoss}
+use Rattle.steps.specs.Chances.{keptTail, keptLoss}
+use Rattle.steps.specs.CorrelatedBinomial.{keptDefaults}
 use Rattle.steps.specs.CorrelatedBinomial.Exponents.{PoolNumber}
 use Rattle.grounds.specs.Grounds.{Ground, firstGround, fillGrounds, rowGrounds, columnGrounds, lossGrounds}
-use Rattle.pool.specs.declared.Pool.{Pool}
+use Rattle.store.specs.declared.Pool.{Pool}
 use Rattle.pool.specs.declared.Tranche.{Tranche}
-use Rattle.pool.specs.declared.Loss.{Loss}
-use Rattle.pool.specs.declared.Loss.the-variants.{Untouched, Faint, Shown}
+use Rattle.chances.specs.declared.Loss.{Loss}
+use Rattle.chances.specs.declared.Loss.the-variants.{Untouched, Faint, Shown}
 use Rattle.pool.specs.declared.Answer.{Answer}
 use Rattle.pool.specs.declared.Answer.the-variants.{Refused, Answered}
 pub mod Theorems
@@ -134,6 +135,11 @@ pub record AnswerDemands (low high : Kept) (exact : Fraction) (answer : Answer) 
   pub answer-is : answer ≡ Answered loss
   pub says : LossDemands low high loss
 
+-- The exact expected loss of a tranche.
+unfoldable pub exactLoss : (n p ρ R A B : ℕ) → 0 < (B - A) * n → Fraction
+unfolding defaults
+exactLoss n p ρ R A B wide = expectedLoss (defaults n p ρ) R A B wide
+
 -- The number of the refusal that is answered, 0 for a loss.
 abbrev pub refusalIn : Answer → ℕ
 refusalIn (Refused number) = number
@@ -159,7 +165,8 @@ module _ (pool : Pool) where
     pub entries : (j k : ℕ) → j ≤ k → k ≤ n
         → BoundDemands (numberOn Low s (k * (k + 1) / 2 + j)) (numberOn High s (k * (k + 1) / 2 + j)) (probability p ρ j k)
     pub chances : (j : ℕ) → j ≤ n → BoundDemands (keptDefaults Low n p ρ j) (keptDefaults High n p ρ j) (chance (defaults n p ρ) j)
-    pub tails : (k : ℕ) → BoundDemands (keptPoolTail Low n p ρ k) (keptPoolTail High n p ρ k) (tail (defaults n p ρ) k)
+    pub tails : (k : ℕ)
+        → BoundDemands (keptTail Low n (keptDefaults Low n p ρ) k) (keptTail High n (keptDefaults High n p ρ) k) (tail (defaults n p ρ) k)
     pub exponents : (side : Side) {x : Kept} → PoolNumber side n p ρ x → (negsuc 79999 ≤ℤ x .exponent) × (x .exponent ≤ℤ pos 100)
 
   -- The places of rows 0 to n. `later`: those behind them keep their content.
@@ -195,7 +202,8 @@ module _ (pool : Pool) where
       pub later : refusalIn answer ≡ 0 → from places after ≡ from places before
       pub wide : refusalIn answer ≡ 0 → 0 < (B - A) * n
       pub loss : refusalIn answer ≡ 0 → (wide : 0 < (B - A) * n)
-          → AnswerDemands (keptPoolLoss Low n p ρ R A B wide) (keptPoolLoss High n p ρ R A B wide) (poolLoss n p ρ R A B wide) answer
+          → AnswerDemands (keptLoss Low n (keptDefaults Low n p ρ) R A B wide) (keptLoss High n (keptDefaults High n p ρ) R A B wide)
+          (exactLoss n p ρ R A B wide) answer
 
 -- The slice is lent to be read, so that no call can write to it. Row k of a filled store has the significands of its bounds.
 pub record RowDemands (n k : ℕ) (significands part : List ℕ) (refusal : ℕ) : Type 0 where

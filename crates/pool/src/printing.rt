@@ -1,10 +1,9 @@
 // Prints the column of a pool.
 use super::Pool;
-use super::filling::fill_both;
 use grounds::Lengths;
-use kept::Side;
 use steps::LARGEST_POOL;
-ghost use Rattle.pool.specs.Stores.{store};
+use store::fill_both;
+ghost use Rattle.store.specs.Stores.{store};
 ghost use Rattle.pool.specs.Calls.{Prints};
 
 // Writes rows 0 to n of the column, each the difference of two printed tails, and nothing behind them. The store is filled on the
@@ -48,7 +47,6 @@ pub fn column(
         high_exponents,
     );
     let row = rows.low;
-    let chances = chances::chances(pool.assets, row, Side::Low);
-    chances::tails::print_rows(pool.assets, chances, units);
+    chances::tails::print_column(pool.assets, row, units);
     0
 }

@@ -1,154 +1,86 @@
--- What the calls promise, from what the steps give.
+-- What the calls on a pool promise, from what the steps give; and what an accepted call's inputs give the functions below it.
 -- Assumes nothing.
-use Prim.Native.Nat.{ℕ, zero, suc, _+_, _≤_, _<_}
-use mathlib.Core.Path.{_≡_, refl, sym, ap, _∙_}
-use mathlib.Core.List.{List, []}
+use Prim.Native.Nat.{ℕ, zero, suc, _≤_, _<_}
+use mathlib.Core.Path.{_≡_, refl}
+use mathlib.Core.List.{List}
 use native.Mathlib.Omega.{arith}
-use native.Mathlib.Nat.{le-refl, add-zero}
-use lib.ListN.{length, getD, take, drop, length-take, length-drop}
-use lib.Seq.{getD-take, getD-drop, ext-getD}
-use Rattle.model.specs.Number.{triangle}
-use Rattle.model.specs.Number.Laws.{triangle-mono, sum-cong}
+use native.Mathlib.Nat.{le-trans}
+use lib.ListN.{getD}
 use Rattle.model.specs.Chances.Laws.{tranche-wide}
 use Rattle.model.specs.CorrelatedBinomial.{defaults}
-use Rattle.kept.specs.declared.Side.{Side}
+use Rattle.kept.specs.declared.Kept.{Kept}
 use Rattle.kept.specs.declared.Side.the-variants.{Low, High}
-use Rattle.kept.specs.Rounding.{nought}
-use Rattle.steps.specs.CorrelatedBinomial.Rows.{keptRow}
-use Rattle.steps.specs.Column.{printedRow}
-use Rattle.steps.specs.Loss.{lossAnswer}
-use Rattle.steps.specs.Inputs.{largestPool, InRange, TrancheInRange}
-use Rattle.steps.specs.Inputs.Laws.{working-range}
+use Rattle.steps.specs.Chances.{keptLoss}
+use Rattle.steps.specs.Column.{printedRow, tenths}
+use Rattle.steps.specs.Loss.{LossAnswer, lossAnswer}
+use Rattle.steps.specs.Inputs.{largestPool, tenthsFor, workingAssets, InRange, TrancheInRange}
+use Rattle.steps.specs.Inputs.Laws.{pool-works}
+use Rattle.steps.specs.Promises.{HoldsColumn}
+use Rattle.steps.specs.Promises.Laws.{column-holds}
 use Rattle.steps.specs.CorrelatedBinomial.{keptDefaults}
-use Rattle.steps.specs.CorrelatedBinomial.Theorems.{column, enclosure, exponents, answer}
-use Rattle.rows.specs.Store.{tabulate, overwritten, stored}
-use Rattle.rows.specs.Store.Laws.{length-tabulate, getD-tabulate, overwritten-at, filled-entry}
+use Rattle.steps.specs.CorrelatedBinomial.Budgets.{defaultsBudget, poolBudget}
+use Rattle.steps.specs.CorrelatedBinomial.Rows.{keptRow}
+use Rattle.steps.specs.CorrelatedBinomial.Theorems.{within, pool-budget, column, answer}
+use Rattle.working.specs.Working.{workingPlaces, Entries}
+use Rattle.working.specs.Slices.{tabulate}
+use Rattle.working.specs.Slices.Laws.{length-tabulate, getD-tabulate, overwritten-at}
+use Rattle.chances.specs.Tails.{ColumnReady, unitsAfter}
+use Rattle.chances.specs.Loss.{TrancheReady}
+use Rattle.chances.specs.Chances.Ready.{column-ready, tranche-ready}
 use Rattle.grounds.specs.Grounds.{PoolAccepted}
-use Rattle.grounds.specs.Grounds.Laws.{row-accepted}
-use Rattle.pool.specs.Stores.{Store, place, storeAfter}
-use Rattle.pool.specs.Stores.Laws.{place-triangle, filled-holds}
-use Rattle.pool.specs.declared.Pool.{Pool}
+use Rattle.store.specs.declared.Pool.{Pool}
 use Rattle.pool.specs.declared.Tranche.{Tranche}
-use Rattle.pool.specs.Calls.{LeavesStore, rowRefusal, partAfter, HandsRow, unitsAfter, HoldsColumn, Wide, lossBound, exactLoss, HoldsLoss}
 use Rattle.pool.specs.Answers.{LossReply, answered}
-
--- ---- row
-
--- Row k lies within a slice that is accepted.
-pub row-within : (n k : ℕ) (significands : List ℕ) → rowRefusal n k significands ≡ 0 → place k 0 + (k + 1) ≤ length significands
-unfolding triangle rowRefusal
-row-within n k significands accepts =
-    let accepted = row-accepted largestPool n k (length significands) refl accepts in
-    rw (place-triangle k 0) (omega (arith, triangle-mono (accepted .row), accepted .store))
-
-module _ (n k : ℕ) (significands : List ℕ) {refusal : ℕ} (is : refusal ≡ rowRefusal n k significands) where
-  pub part-refused : (refusal ≡ 0 → ⊥) → [] ≡ partAfter (rowRefusal n k significands) k significands
-  unfolding partAfter
-  part-refused some = by-number (rowRefusal n k significands) (λ none. some (is ∙ none))
-    where
-      by-number : (r : ℕ) → (r ≡ 0 → ⊥) → [] ≡ partAfter r k significands
-      by-number zero not = absurd (not refl)
-      by-number (suc r) not = refl
-
-  pub part-accepted : refusal ≡ 0 → (count start : ℕ) → count ≡ k + 1 → start ≡ place k 0
-      → take count (drop start significands) ≡ partAfter (rowRefusal n k significands) k significands
-  unfolding partAfter
-  part-accepted none count start count-is start-is = rw (sym is ∙ none, count-is, start-is) refl
-
-module _ (n k : ℕ) (significands : List ℕ) {part : List ℕ} (is : part ≡ partAfter (rowRefusal n k significands) k significands) where
-  module _ (accepts : rowRefusal n k significands ≡ 0) where
-    part-is-row : part ≡ take (k + 1) (drop (place k 0) significands)
-    part-is-row = is ∙ sym (part-accepted n k significands refl accepts _ _ refl refl)
-
-    part-length : length part ≡ k + 1
-    part-length = rw (part-is-row, length-take, length-drop) (omega (arith, row-within n k significands accepts))
-
-    part-entry : (j : ℕ) → j ≤ k → getD part j 0 ≡ getD significands (place k j) 0
-    part-entry j l =
-        let low : j < k + 1 = omega arith in
-        rw (part-is-row, getD-take, getD-drop, place-triangle k 0, add-zero (triangle k), ← place-triangle k j) refl
-
-    part-filled : (side : Side) (p ρ m : ℕ) (old : List ℕ) → n ≤ m → significands ≡ overwritten (stored side p ρ (λ x. x .significand) m) old
-        → part ≡ tabulate (suc k) (λ j. keptRow side p ρ k j .significand)
-    unfolding rowRefusal nought
-    part-filled side p ρ m old more filled =
-        let accepted = row-accepted largestPool n k (length significands) refl accepts in
-        ext-getD 0 part (tabulate (suc k) (λ j. keptRow side p ρ k j .significand)) (part-length ∙ rw length-tabulate (omega arith)) (λ j l.
-        let low : j ≤ k = omega (arith, part-length) in
-        let to-m : k ≤ m = omega (arith, accepted .row) in
-        rw (
-          part-entry j low,
-          place-triangle k j,
-          filled,
-          filled-entry side p ρ (λ x. x .significand) m old low to-m,
-          getD-tabulate (suc k) (λ i. keptRow side p ρ k i .significand) j 0 (omega arith),
-        ) refl)
-
-  part-empty : (rowRefusal n k significands ≡ 0 → ⊥) → length part ≡ 0
-  part-empty not = ap length (is ∙ sym (part-refused n k significands refl not))
-
-  -- What is known of the part that is handed over follows from which it is.
-  pub hands-row : HandsRow n k significands part
-  hands-row = record { part-is = is; refused-empty = part-empty; accepted-length = part-length; entries = part-entry; of-filled = part-filled }
-
--- ---- the store
-
-module _ {pool : Pool} {before after : Store} where
-  pub store-untouched : (refusal : ℕ) → (refusal ≡ 0 → ⊥) → after ≡ before → LeavesStore pool before after refusal
-  unfolding storeAfter
-  store-untouched zero some same = absurd (some refl)
-  store-untouched (suc r) some same = record { store-is = same; holds = λ none. absurd (some none); steps-hold = λ none. absurd (some none) }
-
-  pub store-filled : InRange largestPool (pool .assets) (pool .probability) (pool .correlation)
-      → after ≡ storeAfter (pool .assets) (pool .probability) (pool .correlation) 0 before → LeavesStore pool before after 0
-  store-filled range is = record {
-    store-is = is;
-    holds = λ _. rw is (filled-holds before range);
-    steps-hold = λ _. record { enclosed = enclosure range; ranged = exponents (working-range range) };
-  }
+use Rattle.pool.specs.Calls.{Wide, PoolHoldsLoss, AnswersLoss}
 
 -- ---- column
 
-pub units-untouched : (n p ρ refusal : ℕ) {units : List ℕ} → (refusal ≡ 0 → ⊥) → units ≡ unitsAfter n p ρ refusal units
-unfolding unitsAfter
-units-untouched n p ρ zero some = absurd (some refl)
-units-untouched n p ρ (suc r) some = refl
+module _ {n p ρ : ℕ} (range : InRange largestPool n p ρ) where
+  works : n ≤ workingAssets
+  works = le-trans (range .assets) pool-works
 
-module _ {n p ρ : ℕ} (range : InRange largestPool n p ρ) (units : List ℕ) {units′ : List ℕ} (is : units′ ≡ unitsAfter n p ρ 0 units) where
-  row-printed : {k : ℕ} → k ≤ n → getD units′ k 0 ≡ printedRow n (keptDefaults Low n p ρ) k
-  unfolding unitsAfter
-  row-printed {k} l =
-      let rows : List ℕ = tabulate (suc n) (printedRow n (keptDefaults Low n p ρ)) in
-      let low : k < suc n = omega arith in
-      rw (is, overwritten-at rows units k 0 (rw (length-tabulate (suc n) (printedRow n (keptDefaults Low n p ρ))) low))
-      (getD-tabulate (suc n) (printedRow n (keptDefaults Low n p ρ)) k 0 low)
-
-  pub column-holds : HoldsColumn n p ρ units′
+  pub column-is-ready : {row : List Kept} → Entries workingPlaces (suc n) row (keptRow Low p ρ n) → ColumnReady n row
   unfolding defaults
-  column-holds =
-      let prints = column range in
-      record {
-        total = sum-cong (suc n) (λ k l. row-printed (omega arith)) ∙ prints .total;
-        difference = λ k l. rw (row-printed l) (prints .difference k);
-        last = row-printed (le-refl n) ∙ prints .last;
-        near = λ k l. rw (row-printed l) (prints .near k l);
-      }
+  column-is-ready last = column-ready (within range) works last
+
+  pub tranche-is-ready : {R A B : ℕ} {low high : List Kept} → 0 < n → TrancheInRange R A B → Entries workingPlaces (suc n) low (keptRow Low p ρ n)
+      → Entries workingPlaces (suc n) high (keptRow High p ρ n) → TrancheReady n low high R A B
+  unfolding defaults poolBudget defaultsBudget
+  tranche-is-ready not-empty tranche low high = tranche-ready (within range) works (pool-budget range) low high not-empty tranche
+
+  module _ (units : List ℕ) {units′ : List ℕ} (is : units′ ≡ unitsAfter n (keptDefaults Low n p ρ) 0 units) where
+    row-printed : (k : ℕ) → k ≤ n → getD units′ k 0 ≡ printedRow n (keptDefaults Low n p ρ) k
+    unfolding unitsAfter
+    row-printed k l =
+        let rows : List ℕ = tabulate (suc n) (printedRow n (keptDefaults Low n p ρ)) in
+        let low : k < suc n = omega arith in
+        rw (is, overwritten-at rows units k 0 (rw (length-tabulate (suc n) (printedRow n (keptDefaults Low n p ρ))) low))
+        (getD-tabulate (suc n) (printedRow n (keptDefaults Low n p ρ)) k 0 low)
+
+    pub printed-holds : HoldsColumn (tenths (tenthsFor n)) (defaults n p ρ) (keptDefaults Low n p ρ) units′
+    unfolding defaults
+    printed-holds = column-holds (column range) row-printed
+
+pub units-untouched : (n : ℕ) (c : ℕ → Kept) (refusal : ℕ) {units : List ℕ} → (refusal ≡ 0 → ⊥) → units ≡ unitsAfter n c refusal units
+unfolding unitsAfter
+units-untouched n c zero some = absurd (some refl)
+units-untouched n c (suc r) some = refl
 
 -- ---- loss
 
 module _ (pool : Pool) (tranche : Tranche) (accepted : PoolAccepted largestPool (pool .assets) (pool .probability) (pool .correlation))
     (attachments : TrancheInRange (pool .recovery) (tranche .lower) (tranche .upper)) where
   pub loss-wide : Wide pool tranche
-  unfolding Wide
   loss-wide = tranche-wide (accepted .not-empty) (attachments .lower)
 
-  pub loss-holds : {reply : LossReply} (wide : Wide pool tranche)
-      → reply ≡ answered (lossAnswer (lossBound pool tranche Low wide) (lossBound pool tranche High wide)) → HoldsLoss pool tranche wide reply
-  unfolding Wide lossBound exactLoss
-  loss-holds wide is = record {
-    answer-is = is;
-    enclosed = enclosure (accepted .range) .losses _ _ _ (attachments .upper) wide;
-    says = λ loss given.
-        let same : lossAnswer (lossBound pool tranche Low wide) (lossBound pool tranche High wide) ≡ loss = cc in
-        rw same at (answer (accepted .range) (pool .recovery) (tranche .lower) (tranche .upper) (attachments .upper) wide);
+  pub answers-loss : {reply : LossReply} {loss : LossAnswer} (wide : Wide pool tranche) → reply ≡ answered loss
+      → loss ≡ lossAnswer
+      (keptLoss Low (pool .assets) (keptDefaults Low (pool .assets) (pool .probability) (pool .correlation)) (pool .recovery) (tranche .lower) (tranche .upper) wide)
+      (keptLoss High (pool .assets) (keptDefaults High (pool .assets) (pool .probability) (pool .correlation)) (pool .recovery) (tranche .lower) (tranche .upper) wide)
+      → AnswersLoss pool tranche wide reply
+  unfolding PoolHoldsLoss defaults
+  answers-loss {loss} wide reply-is is = record {
+    loss = loss;
+    reply-is = reply-is;
+    holds = answer (accepted .range) (pool .recovery) (tranche .lower) (tranche .upper) (attachments .upper) wide is;
   }

@@ -10,9 +10,9 @@ use lib.ListN.{length, getD, drop}
 use lib.Seq.{drop-append-seam}
 use Rattle.model.specs.Number.{triangle}
 use Rattle.model.specs.Number.Laws.{triangle-closed}
-use Rattle.model.specs.Fraction.{Fraction, Same, Less, plus}
+use Rattle.model.specs.Fraction.{Fraction, Same, AtMost}
 use Rattle.model.specs.Fraction.Laws.{same-refl, at-most-refl, less-at-most-trans, plus-mono}
-use Rattle.model.specs.Chances.{chance}
+use Rattle.model.specs.Chances.{Chances, chance}
 use Rattle.model.specs.CorrelatedBinomial.{defaults}
 use Rattle.kept.specs.declared.Kept.{Kept}
 use Rattle.kept.specs.declared.Side.{Side}
@@ -25,20 +25,27 @@ use Rattle.steps.specs.Enclosure.{Enclosed}
 use Rattle.steps.specs.Loss.{raisedToShown, Says}
 use Rattle.steps.specs.Loss.Laws.{raised-greater, least-shown-value}
 use Rattle.steps.specs.CorrelatedBinomial.{keptDefaults}
-use Rattle.steps.specs.Inputs.{largestPool}
-use Rattle.rows.specs.Store.{filledSide, tabulate, overwritten, stored}
-use Rattle.rows.specs.Store.Laws.{length-tabulate, stored-length}
+use Rattle.steps.specs.Inputs.{largestPool, distanceFor, tenthsFor}
+use Rattle.steps.specs.Promises.{HoldsColumn}
+use Rattle.steps.specs.Chances.{keptLoss}
+use Rattle.chances.specs.Tails.{unitsAfter}
+use Rattle.chances.specs.Loss.{lossOf}
+use Rattle.working.specs.Slices.{tabulate, overwritten, numberAt}
+use Rattle.working.specs.Slices.Laws.{length-tabulate}
+use Rattle.rows.specs.Store.{filledSide, stored}
+use Rattle.rows.specs.Store.Laws.{stored-length}
 use Rattle.grounds.specs.Grounds.Laws.{row-accepted}
-use Rattle.pool.specs.declared.Pool.{Pool}
+use Rattle.store.specs.declared.Pool.{Pool}
 use Rattle.pool.specs.declared.Tranche.{Tranche}
-use Rattle.pool.specs.declared.Loss.{Loss}
-use Rattle.pool.specs.declared.Loss.the-variants.{Untouched, Faint, Shown}
+use Rattle.chances.specs.declared.Loss.{Loss}
+use Rattle.chances.specs.declared.Loss.the-variants.{Untouched, Faint, Shown}
 use Rattle.pool.specs.declared.Answer.{Answer}
 use Rattle.pool.specs.declared.Answer.the-variants.{Refused, Answered}
-use Rattle.pool.specs.Stores.{Store, lengths, sideOf, numberAt, place, storeAfter}
-use Rattle.pool.specs.Answers.{lossOf, replyOf, refusalOf}
-use Rattle.pool.specs.Calls.{LeavesStore, Fills, fillRefusal, HandsRow, rowRefusal, columnRefusal, unitsAfter, HoldsColumn, Prints, lossRefusal, Wide, lossBound, exactLoss, HoldsLoss, Replies}
-use Rattle.pool.specs.Demands.{BoundDemands, oneAndAHalf, Demand3Column, Slices, significandsOn, numberOn, from, TableDemands, edge, LossDemands, AnswerDemands, refusalIn}
+use Rattle.store.specs.Stores.{Store, lengths, sideOf, place, storeAfter}
+use Rattle.store.specs.Calls.{LeavesStore, Fills, fillRefusal, HandsRow, rowRefusal}
+use Rattle.pool.specs.Answers.{replyOf, refusalOf}
+use Rattle.pool.specs.Calls.{columnRefusal, Prints, lossRefusal, Wide, PoolHoldsLoss, AnswersLoss, Replies}
+use Rattle.pool.specs.Demands.{BoundDemands, oneAndAHalf, Demand3Column, Slices, significandsOn, numberOn, from, TableDemands, edge, LossDemands, AnswerDemands, exactLoss, refusalIn}
 use Rattle.pool.specs.Demands.{FillDemands, RowDemands, ColumnDemands, TrancheDemands}
 
 -- The four slices of a store.
@@ -88,7 +95,7 @@ module _ {pool : Pool} {before after : Store} {refusal : ℕ} (leaves : LeavesSt
     made-on High = leaves .holds none .made High
 
     table-meets : TableDemands pool (slices after)
-    unfolding numberAt place
+    unfolding numberAt place distanceFor defaults
     table-meets =
         let steps = leaves .steps-hold none in
         record {
@@ -133,48 +140,45 @@ row-meets {n} {k} {significands} hands is = record {
 
 -- ---- the column
 
--- Less than 1.5 units apart.
-within-meets : {x : Fraction} (y : Fraction) → Less x (plus y (tenths 15)) → Less x (plus y oneAndAHalf)
-unfolding tenths oneAndAHalf
-within-meets y less = less-at-most-trans less (plus-mono at-most-refl (record { cross = lit≤ tt }))
-
-rows-meet : {n p ρ : ℕ} {units : List ℕ} → HoldsColumn n p ρ units → Demand3Column n (chance (defaults n p ρ)) units
+-- The column of any row whose offset is 1.5 units at most.
+rows-meet : {off : Fraction} {r : Chances} {low : ℕ → Kept} {units : List ℕ} → AtMost off oneAndAHalf → HoldsColumn off r low units
+    → Demand3Column (r .assets) (chance r) units
 unfolding unitsOfCertainty exactUnits
-rows-meet holds = record {
+rows-meet most holds = record {
   total = holds .total;
-  not-above = λ k l. within-meets _ (holds .near k l .not-above);
-  not-below = λ k l. within-meets _ (holds .near k l .not-below);
+  not-above = λ k l. less-at-most-trans (holds .near k l .not-above) (plus-mono at-most-refl most);
+  not-below = λ k l. less-at-most-trans (holds .near k l .not-below) (plus-mono at-most-refl most);
 }
 
-module _ (n p ρ : ℕ) (units : List ℕ) {units′ : List ℕ} where
+module _ (n : ℕ) (c : ℕ → Kept) (units : List ℕ) {units′ : List ℕ} where
   -- A refused call leaves the rows as they were.
-  units-kept : {refusal : ℕ} → units′ ≡ unitsAfter n p ρ refusal units → (refusal ≡ 0 → ⊥) → units′ ≡ units
+  units-kept : {refusal : ℕ} → units′ ≡ unitsAfter n c refusal units → (refusal ≡ 0 → ⊥) → units′ ≡ units
   unfolding unitsAfter
   units-kept {refusal = zero} is some = absurd (some refl)
   units-kept {refusal = suc r} is some = is
 
   -- An accepted one leaves what stands behind them.
-  later-rows : {refusal : ℕ} → units′ ≡ unitsAfter n p ρ refusal units → refusal ≡ 0 → drop (n + 1) units′ ≡ drop (n + 1) units
+  later-rows : {refusal : ℕ} → units′ ≡ unitsAfter n c refusal units → refusal ≡ 0 → drop (n + 1) units′ ≡ drop (n + 1) units
   unfolding unitsAfter
   later-rows is none =
-      let rows = tabulate (suc n) (printedRow n (keptDefaults Low n p ρ)) in
+      let rows = tabulate (suc n) (printedRow n c) in
       let written : units′ ≡ overwritten rows units = rw none at is in
       rw written (later-kept rows units {m = n + 1} (rw length-tabulate (omega arith)))
 
 pub column-meets : {pool : Pool} {before after : Store} {units units′ : List ℕ} {refusal : ℕ} → Prints pool before after units units′ refusal
     → ColumnDemands pool (slices before) (slices after) units units′ refusal
-unfolding columnRefusal lengths largestPool
+unfolding columnRefusal lengths largestPool tenths tenthsFor oneAndAHalf defaults
 column-meets prints =
     let leaves = prints .leaves in
     record {
       one = record {
         number = prints .refusal-is;
-        untouched = λ some. rw (store-kept leaves some, units-kept _ _ _ _ (prints .units-are) some) refl;
+        untouched = λ some. rw (store-kept leaves some, units-kept _ _ _ (prints .units-are) some) refl;
       };
       table = table-meets leaves;
       later = later-meets leaves;
-      column = λ none. rows-meet (prints .holds-column none);
-      later-rows = later-rows _ _ _ _ (prints .units-are);
+      column = λ none. rows-meet (record { cross = lit≤ tt }) (prints .holds-column none);
+      later-rows = later-rows _ _ _ (prints .units-are);
     }
 
 -- ---- the loss
@@ -201,17 +205,27 @@ loss-meets low high v (Faint number) says = record {
 loss-meets low high v (Shown bounds) says =
     record { low-not-below = says .low-not-below; lower-is = says .lower-is .exact; upper-is = says .upper-is .exact }
 
-module _ {pool : Pool} {tranche : Tranche} {wide : Wide pool tranche} where
-  answer-meets : (answer : Answer) → HoldsLoss pool tranche wide (replyOf answer)
-      → AnswerDemands (lossBound pool tranche Low wide) (lossBound pool tranche High wide) (exactLoss pool tranche wide) answer
-  unfolding replyOf
-  answer-meets (Refused number) holds = let never : _≡_ {A = ℕ} 0 1 = cc (holds .answer-is) in absurd (omega arith)
-  answer-meets (Answered loss) holds = record {
-    bounds = bounds-meet (holds .enclosed);
-    loss = loss;
-    answer-is = refl;
-    says = loss-meets (lossBound pool tranche Low wide) (lossBound pool tranche High wide) (exactLoss pool tranche wide) loss (holds .says (lossOf loss) refl);
-  }
+module _ (pool : Pool) (tranche : Tranche) (wide : Wide pool tranche) where
+  -- The bound of step 6 on a side, and the exact loss.
+  abbrev boundOn : Side → Kept
+  boundOn side =
+      keptLoss side (pool .assets) (keptDefaults side (pool .assets) (pool .probability) (pool .correlation)) (pool .recovery) (tranche .lower) (tranche .upper) wide
+
+  abbrev lost : Fraction
+  lost = exactLoss (pool .assets) (pool .probability) (pool .correlation) (pool .recovery) (tranche .lower) (tranche .upper) wide
+
+  answer-meets : (answer : Answer) → AnswersLoss pool tranche wide (replyOf answer) → AnswerDemands (boundOn Low) (boundOn High) lost answer
+  unfolding replyOf PoolHoldsLoss defaults exactLoss distanceFor
+  answer-meets (Refused number) answers = let never : _≡_ {A = ℕ} 0 1 = cc (answers .reply-is) in absurd (omega arith)
+  answer-meets (Answered loss) answers =
+      let same : answers .loss ≡ lossOf loss = cc (answers .reply-is) in
+      let holds = answers .holds in
+      record {
+        bounds = bounds-meet (holds .enclosed);
+        loss = loss;
+        answer-is = refl;
+        says = loss-meets (boundOn Low) (boundOn High) lost loss (rw same at (holds .says));
+      }
 
 number-is : (answer : Answer) → refusalIn answer ≡ refusalOf (replyOf answer)
 unfolding replyOf refusalOf
@@ -220,8 +234,8 @@ number-is (Answered loss) = refl
 
 pub tranche-meets : {pool : Pool} {tranche : Tranche} {before after : Store} (answer : Answer) → Replies pool tranche before after (replyOf answer)
     → TrancheDemands pool tranche (slices before) (slices after) answer
-unfolding lossRefusal Wide lossBound exactLoss lengths largestPool
-tranche-meets answer replies =
+unfolding lossRefusal lengths largestPool
+tranche-meets {pool} {tranche} answer replies =
     let is = number-is answer ∙ replies .refusal-is in
     let leaves = rw (← is) at (replies .leaves) in
     record {
@@ -229,5 +243,5 @@ tranche-meets answer replies =
       table = table-meets leaves;
       later = later-meets leaves;
       wide = λ none. replies .wide (sym is ∙ none);
-      loss = λ none wide. answer-meets answer (replies .holds-loss (sym is ∙ none) wide);
+      loss = λ none wide. answer-meets pool tranche wide answer (replies .holds-loss (sym is ∙ none) wide);
     }

@@ -6,11 +6,13 @@ use native.Mathlib.Omega.{arith}
 use Rattle.steps.specs.Inputs.{largestPool}
 use Rattle.grounds.specs.Grounds.{fourLengths, LossAccepted}
 use Rattle.grounds.specs.Grounds.Laws.{loss-accepted}
-use Rattle.pool.specs.Stores.{Store, store, lengths}
-use Rattle.pool.specs.Answers.{refused, answered, replyOf, refusalOf}
-use Rattle.pool.specs.Calls.{lossRefusal, Wide, lossBound}
-use Rattle.pool.specs.Calls.Laws.{store-untouched, store-filled, loss-wide, loss-holds}
-use Rattle.pool.specs.Inner.Laws.{answerable}
+use Rattle.store.specs.Stores.{Store, store, lengths}
+use Rattle.store.specs.Calls.Laws.{store-untouched, store-filled}
+use Rattle.pool.specs.Answers.{refused, replyOf, refusalOf}
+use Rattle.steps.specs.CorrelatedBinomial.{keptDefaults}
+use Rattle.steps.specs.CorrelatedBinomial.Rows.{keptRow}
+use Rattle.pool.specs.Calls.{lossRefusal}
+use Rattle.pool.specs.Calls.Laws.{tranche-is-ready, loss-wide, answers-loss}
 use Rattle.pool.proofs.losses.tranche_loss.Statement.{statement}
 use Rattle.pool.proofs.losses.tranche_loss.Tie as tie
 
@@ -34,10 +36,6 @@ accepted : (c : tie.Else1) → let start = c .before .before .before .before in
 unfolding lossRefusal
 accepted c = loss-accepted _ _ _ _ _ _ _ _ (number-is (c .before)) (goes-on c)
 
--- Where the bounds are worked out.
-abbrev else-of : tie.After-tranche-bound → tie.Else1
-else-of c = c .before .before .before .before .before .before .before .before .before .before .before .before .before .before
-
 returns : tie.Need-returns
 unfolding replyOf refusalOf
 returns c =
@@ -50,40 +48,29 @@ returns c =
       holds-loss = λ none. absurd (omega (arith, is ∙ none));
     }
 
-tranche-bound-requires : tie.Need-tranche-bound-requires
-tranche-bound-requires c κs =
+tranche-loss-requires : tie.Need-tranche-loss-requires
+tranche-loss-requires c κs =
     let filled = c .before .before .before .before .before .before .before .before in
     let given = accepted (filled .before .before .before .before .before) in
-    record { accepted = given .fill .pool; attachments = given .tranche; last = filled .fill-both .ensures .low-row }
-
-tranche-bound-requires-2 : tie.Need-tranche-bound-requires-2
-tranche-bound-requires-2 c κs =
-    let filled = c .before .before .before .before .before .before .before .before .before in
-    let given = accepted (else-of c) in
-    record { accepted = given .fill .pool; attachments = given .tranche; last = filled .fill-both .ensures .high-row }
-
-loss-answer-requires : tie.Need-loss-answer-requires
-unfolding Wide lossBound
-loss-answer-requires c κs =
-    let given = accepted (else-of (c .before)) in
-    let wide = loss-wide _ _ (given .fill .pool) (given .tranche) in
-    rw (c .before .tranche-bound .ensures wide, c .tranche-bound2 .ensures wide) (answerable (given .fill .pool .range) _ _ _ (given .tranche) wide)
+    let rows = filled .fill-both .ensures in
+    tranche-is-ready (given .fill .pool .range) (given .fill .pool .not-empty) (given .tranche) (rows .low-row) (rows .high-row)
 
 returns-2 : tie.Need-returns-2
-unfolding replyOf refusalOf
+unfolding replyOf refusalOf keptDefaults
 returns-2 c =
-    let else1 = else-of (c .before .before) in
+    let filled = c .before .before .before .before .before .before .before .before .before in
+    let else1 = filled .before .before .before .before .before in
     let given = accepted else1 in
+    let rows = filled .fill-both .ensures in
+    let pool = else1 .before .before .before .before .args .pool in
     let none = sym (number-is (else1 .before)) ∙ goes-on else1 in
-    let filled = c .before .before .before .before .before .before .before .before .before .before .before in
     record {
       refusal-is = sym none;
       refused-is = λ some. absurd (some none);
-      leaves = rw none (store-filled (given .fill .pool .range) (filled .fill-both .ensures .store-is));
+      leaves = rw none (store-filled (given .fill .pool .range) (rows .store-is));
       wide = λ _. loss-wide _ _ (given .fill .pool) (given .tranche);
       holds-loss = λ _ wide.
-          loss-holds _ _ (given .fill .pool) (given .tranche) wide
-          (ap answered (rw (c .before .before .tranche-bound .ensures wide, c .before .tranche-bound2 .ensures wide) at (c .loss-answer .ensures)));
+          answers-loss _ _ (given .fill .pool) (given .tranche) wide refl (c .tranche-loss .ensures .answer-is (λ side. keptRow side (pool .probability) (pool .correlation) (pool .assets)) (rows .low-row) (rows .high-row) wide);
     }
 
 pub tranche-loss-spec : {M : Type 1} → statement M
@@ -93,8 +80,6 @@ tranche-loss-spec =
     (λ c κs. search needs)
     returns
     (λ c κs. accepted (c .before .before .before .before) .fill)
-    tranche-bound-requires
-    tranche-bound-requires-2
-    loss-answer-requires
+    tranche-loss-requires
     (λ c. search needs) (λ c. search needs) (λ c. search needs) (λ c. search needs)
     returns-2)

@@ -4,14 +4,14 @@ use mathlib.Core.Path.{_≡_, refl, sym, _∙_}
 use borrow.Author.Needs.{needs}
 use native.Mathlib.Omega.{arith}
 use lib.ListN.{length}
-use Rattle.kept.specs.declared.Side.the-variants.{Low}
 use Rattle.steps.specs.Inputs.{largestPool}
 use Rattle.grounds.specs.Grounds.{fourLengths, ColumnAccepted}
 use Rattle.grounds.specs.Grounds.Laws.{column-accepted}
-use Rattle.pool.specs.Stores.{store, lengths}
-use Rattle.pool.specs.Calls.{columnRefusal, unitsAfter}
-use Rattle.pool.specs.Calls.Laws.{store-untouched, store-filled, units-untouched, column-holds}
-use Rattle.pool.specs.Inner.Laws.{chances-ready, chances-made, tails-ready}
+use Rattle.steps.specs.CorrelatedBinomial.{keptDefaults}
+use Rattle.store.specs.Stores.{store, lengths}
+use Rattle.store.specs.Calls.Laws.{store-untouched, store-filled}
+use Rattle.pool.specs.Calls.{columnRefusal}
+use Rattle.pool.specs.Calls.Laws.{column-is-ready, printed-holds, units-untouched}
 use Rattle.pool.proofs.printing.column.Statement.{statement}
 use Rattle.pool.proofs.printing.column.Tie as tie
 
@@ -30,35 +30,28 @@ unfolding columnRefusal lengths store fourLengths largestPool
 refused c = record {
   refusal-is = c .before .column-refusal .ensures;
   leaves = store-untouched (c .before .column-refusal .result) (λ none. omega arith) refl;
-  units-are = units-untouched _ _ _ (c .before .column-refusal .result) (λ none. omega arith);
+  units-are = units-untouched _ _ (c .before .column-refusal .result) (λ none. omega arith);
   holds-column = λ none. absurd (omega arith);
 }
 
-chances-requires : tie.Need-chances-requires
-chances-requires c κs =
-    let filled = c .before .before .before .before .before .before .before in
-    chances-ready (accepted (filled .before .before .before .before .before) .fill .pool .range) Low (filled .fill-both .ensures .low-row)
-
-print-rows-requires : tie.Need-print-rows-requires
-print-rows-requires c κs =
-    let filled = c .before .before .before .before .before .before .before .before .before in
+print-column-requires : tie.Need-print-column-requires
+print-column-requires c κs =
+    let filled = c .before .before .before .before .before .before .before .before in
     let given = accepted (filled .before .before .before .before .before) in
-    let range = given .fill .pool .range in
-    (tails-ready range (chances-made range Low (filled .fill-both .ensures .low-row) (c .before .chances .ensures)), given .column)
+    (column-is-ready (given .fill .pool .range) (filled .fill-both .ensures .low-row), given .column)
 
 printed : tie.Need-returns-2
-unfolding columnRefusal lengths store fourLengths largestPool unitsAfter
+unfolding columnRefusal lengths store fourLengths largestPool keptDefaults
 printed c =
-    let chances = c .before .before .before .before in
-    let filled = chances .before .before .before .before .before .before .before .before in
+    let filled = c .before .before .before .before .before .before .before .before .before .before .before in
     let else1 = filled .before .before .before .before .before in
     let range = accepted else1 .fill .pool .range in
-    let rows = c .before .before .print-rows .ensures .rows _ (chances-made range Low (filled .fill-both .ensures .low-row) (chances .chances .ensures)) in
+    let rows = c .before .before .print-column .ensures .units-are _ (filled .fill-both .ensures .low-row) in
     record {
       refusal-is = sym (goes-on else1) ∙ else1 .before .column-refusal .ensures;
       leaves = store-filled range (filled .fill-both .ensures .store-is);
       units-are = rows;
-      holds-column = λ _. column-holds range _ rows;
+      holds-column = λ _. printed-holds range _ rows;
     }
 
 pub column-spec : {M : Type 1} → statement M
@@ -68,7 +61,6 @@ column-spec =
     (λ c κs. search needs)
     refused
     (λ c κs. accepted (c .before .before .before .before) .fill)
-    chances-requires
-    print-rows-requires
+    print-column-requires
     (λ c. search needs) (λ c. search needs) (λ c. search needs) (λ c. search needs) (λ c. search needs)
     printed)

@@ -3,10 +3,10 @@
 use mathlib.Core.Path.{refl}
 use borrow.Author.Needs.{needs}
 use Rattle.kept.specs.declared.Side.the-variants.{Low, High}
-use Rattle.pool.specs.Stores.{store, sideOf, storeAfter}
-use Rattle.pool.specs.Inner.Laws.{fillable}
-use Rattle.pool.proofs.filling.fill_both.Statement.{statement}
-use Rattle.pool.proofs.filling.fill_both.Tie as tie
+use Rattle.store.specs.Stores.{store, sideOf, storeAfter}
+use Rattle.store.specs.Filling.Laws.{fillable}
+use Rattle.store.proofs.filling.fill_both.Statement.{statement}
+use Rattle.store.proofs.filling.fill_both.Tie as tie
 
 fill-side-requires : tie.Need-fill-side-requires
 unfolding store sideOf

@@ -7,12 +7,12 @@ use native.Mathlib.Nat.{add-zero}
 use native.Mathlib.Omega.{arith}
 use lib.ListN.{length}
 use Rattle.steps.specs.Inputs.{largestPool}
-use Rattle.pool.specs.Stores.{place}
-use Rattle.pool.specs.Stores.Laws.{place-triangle}
-use Rattle.pool.specs.Calls.{rowRefusal}
-use Rattle.pool.specs.Calls.Laws.{hands-row, row-within, part-refused, part-accepted}
-use Rattle.pool.proofs.reading.row.Statement.{statement}
-use Rattle.pool.proofs.reading.row.Tie as tie
+use Rattle.store.specs.Stores.{place}
+use Rattle.store.specs.Stores.Laws.{place-triangle}
+use Rattle.store.specs.Calls.{rowRefusal}
+use Rattle.store.specs.Calls.Laws.{hands-row, row-within, part-refused, part-accepted}
+use Rattle.store.proofs.reading.row.Statement.{statement}
+use Rattle.store.proofs.reading.row.Tie as tie
 
 -- Where row k starts.
 start : (c : tie.After-row-start) → c .row-start .result ≡ place (c .before .before .before .before .args .k) 0

@@ -6,11 +6,11 @@ use native.Mathlib.Omega.{arith}
 use Rattle.grounds.specs.Grounds.{fourLengths}
 use Rattle.grounds.specs.Grounds.Laws.{fill-accepted}
 use Rattle.steps.specs.Inputs.{largestPool}
-use Rattle.pool.specs.Stores.{store, lengths}
-use Rattle.pool.specs.Calls.{fillRefusal}
-use Rattle.pool.specs.Calls.Laws.{store-untouched, store-filled}
-use Rattle.pool.proofs.filling.fill.Statement.{statement}
-use Rattle.pool.proofs.filling.fill.Tie as tie
+use Rattle.store.specs.Stores.{store, lengths}
+use Rattle.store.specs.Calls.{fillRefusal}
+use Rattle.store.specs.Calls.Laws.{store-untouched, store-filled}
+use Rattle.store.proofs.filling.fill.Statement.{statement}
+use Rattle.store.proofs.filling.fill.Tie as tie
 
 -- Where the call goes on, no ground applies.
 goes-on : (c : tie.Else1) → c .before .fill-refusal .result ≡ 0

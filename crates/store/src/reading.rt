@@ -1,7 +1,7 @@
 // Reads a row of a filled slice.
 use steps::LARGEST_POOL;
 ghost use mathlib.Core.Path.{_≡_};
-ghost use Rattle.pool.specs.Calls.{HandsRow, rowRefusal};
+ghost use Rattle.store.specs.Calls.{HandsRow, rowRefusal};
 
 // Row k of a slice of significands that a call for n assets has filled: the part of the caller's slice that holds it, k + 1
 // entries. The part is empty on a refusal, and only then.

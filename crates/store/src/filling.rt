@@ -3,13 +3,13 @@ use super::Pool;
 use grounds::Lengths;
 use kept::Kept;
 use kept::Side;
-use rows::PLACES;
 use steps::LARGEST_POOL;
+use working::PLACES;
 ghost use Rattle.steps.specs.Inputs.{largestPool};
 ghost use Rattle.grounds.specs.Grounds.{FillAccepted};
-ghost use Rattle.pool.specs.Stores.{store, lengths};
-ghost use Rattle.pool.specs.Inner.{FilledBoth};
-ghost use Rattle.pool.specs.Calls.{Fills};
+ghost use Rattle.store.specs.Stores.{store, lengths};
+ghost use Rattle.store.specs.Filling.{FilledBoth};
+ghost use Rattle.store.specs.Calls.{Fills};
 
 // Row n of either side.
 pub struct LastRows {

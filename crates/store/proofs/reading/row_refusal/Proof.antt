@@ -2,9 +2,9 @@
 -- Assumes nothing.
 use borrow.Author.Needs.{needs}
 use Rattle.steps.specs.Inputs.{largestPool}
-use Rattle.pool.specs.Calls.{rowRefusal}
-use Rattle.pool.proofs.reading.row_refusal.Statement.{statement}
-use Rattle.pool.proofs.reading.row_refusal.Tie as tie
+use Rattle.store.specs.Calls.{rowRefusal}
+use Rattle.store.proofs.reading.row_refusal.Statement.{statement}
+use Rattle.store.proofs.reading.row_refusal.Tie as tie
 
 pub row-refusal-spec : {M : Type 1} → statement M
 unfolding rowRefusal largestPool

@@ -3,16 +3,16 @@
 use Prim.Native.Nat.{ℕ, zero, suc, _+_, _*_, _/_, _≤_}
 use mathlib.Core.Path.{_≡_}
 use mathlib.Core.List.{List, [], _∷_}
-use lib.ListN.{length, getD}
-use lib.IntN.{ℤ, pos}
+use lib.ListN.{length}
+use lib.IntN.{ℤ}
 use Rattle.model.specs.CorrelatedBinomial.{probability}
-use Rattle.kept.specs.declared.Kept.{Kept}
 use Rattle.kept.specs.declared.Side.{Side}
 use Rattle.kept.specs.declared.Side.the-variants.{Low, High}
 use Rattle.steps.specs.CorrelatedBinomial.Rows.{keptRow}
 use Rattle.steps.specs.Enclosure.{Enclosed}
 use Rattle.steps.specs.Exponents.{Ranged}
-use Rattle.rows.specs.Store.{SideStore, sideStore, filledSide}
+use Rattle.working.specs.Slices.{SideStore, sideStore, numberAt}
+use Rattle.rows.specs.Store.{filledSide}
 pub mod Laws
 
 pub record Store : Type 0 where
@@ -30,10 +30,6 @@ unfoldable pub sideOf : Side → Store → SideStore
 sideOf Low s = s .low
 sideOf High s = s .high
 
--- The kept number at a place of one side.
-unfoldable pub numberAt : SideStore → ℕ → Kept
-numberAt h i = record { significand = getD (h .significands) i 0; exponent = getD (h .exponents) i (pos 0) }
-
 -- Where entry j of row k stands.
 unfoldable pub place : (k j : ℕ) → ℕ
 place k j = k * (k + 1) / 2 + j
@@ -45,8 +41,8 @@ module _ (n p ρ : ℕ) where
   storeAfter (suc r) s = s
 
   -- What a filled store holds, for every entry j of every row k up to n: the numbers that the steps make on either side, which enclose P(j,k) and are at most
-  -- one part in 100,000 apart, with exponents from −80,000 to 100.
-  pub record HoldsChances (s : Store) : Type 0 where
+  -- one part in g k apart, with exponents from −80,000 to 100.
+  pub record HoldsEntries (g : ℕ → ℕ) (s : Store) : Type 0 where
     pub made : (side : Side) (j k : ℕ) → j ≤ k → k ≤ n → numberAt (sideOf side s) (place k j) ≡ keptRow side p ρ k j
-    pub enclosed : (j k : ℕ) → j ≤ k → k ≤ n → Enclosed 100000 (numberAt (s .low) (place k j)) (numberAt (s .high) (place k j)) (probability p ρ j k)
+    pub enclosed : (j k : ℕ) → j ≤ k → k ≤ n → Enclosed (g k) (numberAt (s .low) (place k j)) (numberAt (s .high) (place k j)) (probability p ρ j k)
     pub ranged : (side : Side) (j k : ℕ) → j ≤ k → k ≤ n → Ranged (numberAt (sideOf side s) (place k j))

@@ -13,12 +13,13 @@ use Rattle.kept.specs.Rounding.{nought}
 use Rattle.steps.specs.CorrelatedBinomial.Rows.{keptRow}
 use Rattle.steps.specs.Enclosure.{Enclosed}
 use Rattle.steps.specs.CorrelatedBinomial.Exponents.{is-entry, of-rows}
-use Rattle.steps.specs.CorrelatedBinomial.Theorems.{enclosure, exponents}
-use Rattle.steps.specs.Inputs.{largestPool, InRange}
+use Rattle.steps.specs.CorrelatedBinomial.Theorems.{entries, exponents}
+use Rattle.steps.specs.Inputs.{largestPool, distanceFor, InRange}
 use Rattle.steps.specs.Inputs.Laws.{working-range}
-use Rattle.rows.specs.Store.{SideStore, filledSide}
+use Rattle.working.specs.Slices.{SideStore, numberAt}
+use Rattle.rows.specs.Store.{filledSide}
 use Rattle.rows.specs.Store.Laws.{filled-entry}
-use Rattle.pool.specs.Stores.{Store, sideOf, numberAt, place, storeAfter, HoldsChances}
+use Rattle.store.specs.Stores.{Store, sideOf, place, storeAfter, HoldsEntries}
 
 pub place-triangle : (k j : ℕ) → place k j ≡ triangle k + j
 unfolding place
@@ -42,10 +43,10 @@ module _ (n p ρ : ℕ) where
   side-filled Low s l m = number-filled Low (s .low) l m
   side-filled High s l m = number-filled High (s .high) l m
 
-pub filled-holds : {n p ρ : ℕ} (s : Store) → InRange largestPool n p ρ → HoldsChances n p ρ (storeAfter n p ρ 0 s)
+pub filled-holds : {n p ρ : ℕ} (s : Store) → InRange largestPool n p ρ → HoldsEntries n p ρ distanceFor (storeAfter n p ρ 0 s)
 unfolding sideOf
 filled-holds {n} {p} {ρ} s range = record {
   made = λ side j k l m. side-filled n p ρ side s l m;
-  enclosed = λ j k l m. enclosed-same (side-filled n p ρ Low s l m) (side-filled n p ρ High s l m) (enclosure range .entries l m);
+  enclosed = λ j k l m. enclosed-same (side-filled n p ρ Low s l m) (side-filled n p ρ High s l m) (entries range l m);
   ranged = λ side j k l m. rw (side-filled n p ρ side s l m) (exponents (working-range range) side (of-rows (is-entry k j m l)));
 }

@@ -1,0 +1,100 @@
+-- What the calls on a store promise, from what the steps give.
+-- Assumes nothing.
+use Prim.Native.Nat.{ℕ, zero, suc, _+_, _≤_, _<_}
+use mathlib.Core.Path.{_≡_, refl, sym, ap, _∙_}
+use mathlib.Core.List.{List, []}
+use native.Mathlib.Omega.{arith}
+use native.Mathlib.Nat.{add-zero}
+use lib.ListN.{length, getD, take, drop, length-take, length-drop}
+use lib.Seq.{getD-take, getD-drop, ext-getD}
+use Rattle.model.specs.Number.{triangle}
+use Rattle.model.specs.Number.Laws.{triangle-mono}
+use Rattle.kept.specs.declared.Side.{Side}
+use Rattle.kept.specs.Rounding.{nought}
+use Rattle.steps.specs.CorrelatedBinomial.Rows.{keptRow}
+use Rattle.steps.specs.CorrelatedBinomial.Theorems.{steps-hold}
+use Rattle.steps.specs.Inputs.{largestPool, InRange}
+use Rattle.working.specs.Slices.{tabulate, overwritten}
+use Rattle.working.specs.Slices.Laws.{length-tabulate, getD-tabulate}
+use Rattle.rows.specs.Store.{stored}
+use Rattle.rows.specs.Store.Laws.{filled-entry}
+use Rattle.grounds.specs.Grounds.Laws.{row-accepted}
+use Rattle.store.specs.declared.Pool.{Pool}
+use Rattle.store.specs.Stores.{Store, place, storeAfter}
+use Rattle.store.specs.Stores.Laws.{place-triangle, filled-holds}
+use Rattle.store.specs.Calls.{LeavesStore, rowRefusal, partAfter, HandsRow}
+
+-- ---- row
+
+-- Row k lies within a slice that is accepted.
+pub row-within : (n k : ℕ) (significands : List ℕ) → rowRefusal n k significands ≡ 0 → place k 0 + (k + 1) ≤ length significands
+unfolding triangle rowRefusal
+row-within n k significands accepts =
+    let accepted = row-accepted largestPool n k (length significands) refl accepts in
+    rw (place-triangle k 0) (omega (arith, triangle-mono (accepted .row), accepted .store))
+
+module _ (n k : ℕ) (significands : List ℕ) {refusal : ℕ} (is : refusal ≡ rowRefusal n k significands) where
+  pub part-refused : (refusal ≡ 0 → ⊥) → [] ≡ partAfter (rowRefusal n k significands) k significands
+  unfolding partAfter
+  part-refused some = by-number (rowRefusal n k significands) (λ none. some (is ∙ none))
+    where
+      by-number : (r : ℕ) → (r ≡ 0 → ⊥) → [] ≡ partAfter r k significands
+      by-number zero not = absurd (not refl)
+      by-number (suc r) not = refl
+
+  pub part-accepted : refusal ≡ 0 → (count start : ℕ) → count ≡ k + 1 → start ≡ place k 0
+      → take count (drop start significands) ≡ partAfter (rowRefusal n k significands) k significands
+  unfolding partAfter
+  part-accepted none count start count-is start-is = rw (sym is ∙ none, count-is, start-is) refl
+
+module _ (n k : ℕ) (significands : List ℕ) {part : List ℕ} (is : part ≡ partAfter (rowRefusal n k significands) k significands) where
+  module _ (accepts : rowRefusal n k significands ≡ 0) where
+    part-is-row : part ≡ take (k + 1) (drop (place k 0) significands)
+    part-is-row = is ∙ sym (part-accepted n k significands refl accepts _ _ refl refl)
+
+    part-length : length part ≡ k + 1
+    part-length = rw (part-is-row, length-take, length-drop) (omega (arith, row-within n k significands accepts))
+
+    part-entry : (j : ℕ) → j ≤ k → getD part j 0 ≡ getD significands (place k j) 0
+    part-entry j l =
+        let low : j < k + 1 = omega arith in
+        rw (part-is-row, getD-take, getD-drop, place-triangle k 0, add-zero (triangle k), ← place-triangle k j) refl
+
+    part-filled : (side : Side) (p ρ m : ℕ) (old : List ℕ) → n ≤ m → significands ≡ overwritten (stored side p ρ (λ x. x .significand) m) old
+        → part ≡ tabulate (suc k) (λ j. keptRow side p ρ k j .significand)
+    unfolding rowRefusal nought
+    part-filled side p ρ m old more filled =
+        let accepted = row-accepted largestPool n k (length significands) refl accepts in
+        ext-getD 0 part (tabulate (suc k) (λ j. keptRow side p ρ k j .significand)) (part-length ∙ rw length-tabulate (omega arith)) (λ j l.
+        let low : j ≤ k = omega (arith, part-length) in
+        let to-m : k ≤ m = omega (arith, accepted .row) in
+        rw (
+          part-entry j low,
+          place-triangle k j,
+          filled,
+          filled-entry side p ρ (λ x. x .significand) m old low to-m,
+          getD-tabulate (suc k) (λ i. keptRow side p ρ k i .significand) j 0 (omega arith),
+        ) refl)
+
+  part-empty : (rowRefusal n k significands ≡ 0 → ⊥) → length part ≡ 0
+  part-empty not = ap length (is ∙ sym (part-refused n k significands refl not))
+
+  -- What is known of the part that is handed over follows from which it is.
+  pub hands-row : HandsRow n k significands part
+  hands-row = record { part-is = is; refused-empty = part-empty; accepted-length = part-length; entries = part-entry; of-filled = part-filled }
+
+-- ---- the store
+
+module _ {pool : Pool} {before after : Store} where
+  pub store-untouched : (refusal : ℕ) → (refusal ≡ 0 → ⊥) → after ≡ before → LeavesStore pool before after refusal
+  unfolding storeAfter
+  store-untouched zero some same = absurd (some refl)
+  store-untouched (suc r) some same = record { store-is = same; holds = λ none. absurd (some none); steps-hold = λ none. absurd (some none) }
+
+  pub store-filled : InRange largestPool (pool .assets) (pool .probability) (pool .correlation)
+      → after ≡ storeAfter (pool .assets) (pool .probability) (pool .correlation) 0 before → LeavesStore pool before after 0
+  store-filled range is = record {
+    store-is = is;
+    holds = λ _. rw is (filled-holds before range);
+    steps-hold = λ _. steps-hold range;
+  }
