@@ -7,13 +7,13 @@ use pool::Answer;
 use pool::Loss;
 use pool::Pool;
 use pool::Tranche;
-use rows::PLACES;
 use trial_support::bits;
 use trial_support::magnitude;
 use trial_support::operand;
 use trial_support::write;
 use trial_support::write_field;
 use trial_support::write_number;
+use working::PLACES;
 ghost use Prim.Native.Nat.{_≤_, _<_};
 
 // The places of a store for 36 assets.
@@ -68,9 +68,7 @@ fn write_kept(x: Kept, digits: u32) {
 fn chances_of(n: u32, correlation: u32, side: Side) -> [Kept; PLACES]
     requires { ⌜ 0 < n ⌝ ∗ ⌜ n ≤ 36 ⌝ ∗ ⌜ correlation ≤ 10000 ⌝ }
 {
-    let mut significands = [0u32; STORE];
-    let mut exponents = [0i32; STORE];
-    let row = rows::fill_side(n, 500, correlation, side, &mut significands, &mut exponents);
+    let row = rows::last_row(n, 500, correlation, side);
     chances::chances(n, row, side)
 }
 

@@ -1,7 +1,7 @@
 -- `column` meets its contract.
 -- Assumes nothing.
 use borrow.Author.Needs.{needs}
-use Rattle.pool.specs.Stores.{store}
+use Rattle.store.specs.Stores.{store}
 use Rattle.pool.specs.Demands.{lent}
 use Rattle.pool.specs.Demands.Theorems.{column-meets}
 use Rattle.demands.proofs.column.Statement.{statement}

@@ -1,7 +1,7 @@
 -- `fill` meets its contract.
 -- Assumes nothing.
 use borrow.Author.Needs.{needs}
-use Rattle.pool.specs.Stores.{store}
+use Rattle.store.specs.Stores.{store}
 use Rattle.pool.specs.Demands.{lent}
 use Rattle.pool.specs.Demands.Theorems.{fill-meets}
 use Rattle.demands.proofs.fill.Statement.{statement}

@@ -2,7 +2,7 @@
 -- Assumes nothing.
 use borrow.Author.Needs.{needs}
 use Rattle.steps.specs.Inputs.{largestPool}
-use Rattle.pool.specs.Calls.{rowRefusal}
+use Rattle.store.specs.Calls.{rowRefusal}
 use Rattle.pool.specs.Demands.Theorems.{row-meets}
 use Rattle.demands.proofs.row.Statement.{statement}
 use Rattle.demands.proofs.row.Tie as tie

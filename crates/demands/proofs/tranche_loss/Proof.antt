@@ -1,7 +1,7 @@
 -- `tranche_loss` meets its contract.
 -- Assumes nothing.
 use borrow.Author.Needs.{needs}
-use Rattle.pool.specs.Stores.{store}
+use Rattle.store.specs.Stores.{store}
 use Rattle.pool.specs.Demands.{lent}
 use Rattle.pool.specs.Demands.Theorems.{tranche-meets}
 use Rattle.demands.proofs.tranche_loss.Statement.{statement}

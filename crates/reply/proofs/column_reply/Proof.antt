@@ -5,11 +5,12 @@ use borrow.Author.Needs.{needs}
 use native.Mathlib.Omega.{arith}
 use lib.Dec.{lit≤, lit<}
 use Rattle.model.specs.Number.{triangle}
+use Rattle.model.specs.CorrelatedBinomial.{defaults}
 use Rattle.steps.specs.Column.{unitsOfCertainty}
 use Rattle.steps.specs.Inputs.{largestPool}
 use Rattle.grounds.specs.Grounds.{firstGround, poolGrounds}
 use Rattle.grounds.specs.Grounds.Laws.{pool-accepted, pool-refusal-at-most}
-use Rattle.pool.specs.Stores.{store, lengths}
+use Rattle.store.specs.Stores.{store, lengths}
 use Rattle.reply.specs.Reply.Laws.{carried, refused-as-pool, refused-answer, table-answer}
 use Rattle.reply.proofs.column_reply.Statement.{statement}
 use Rattle.reply.proofs.column_reply.Tie as tie
@@ -36,7 +37,7 @@ accepted : (c : tie.Else1) → let args = start (c .before .before .before .befo
 accepted c = sym (pool-refusal (c .before .before .before .before .before .before)) ∙ c .if1 .left
 
 write-table-requires : tie.Need-write-table-requires
-unfolding largestPool unitsOfCertainty
+unfolding largestPool unitsOfCertainty defaults
 write-table-requires c κs =
     let branch = c .before .before in
     let printed = branch .before .before .before .before .before .before in

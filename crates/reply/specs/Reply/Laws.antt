@@ -9,13 +9,17 @@ use native.Mathlib.Omega.{arith}
 use lib.ListN.{length, take, drop, length-append, length-take}
 use lib.Seq.{take-all, take-at}
 use Rattle.model.specs.Number.{triangle}
-use Rattle.steps.specs.Column.{printedRow}
-use Rattle.steps.specs.Inputs.{largestPool}
+use Rattle.model.specs.CorrelatedBinomial.{defaults}
+use Rattle.kept.specs.declared.Side.the-variants.{Low}
+use Rattle.steps.specs.Column.{printedRow, tenths}
+use Rattle.steps.specs.CorrelatedBinomial.{keptDefaults}
+use Rattle.steps.specs.Inputs.{largestPool, tenthsFor}
+use Rattle.steps.specs.Promises.{HoldsColumn}
 use Rattle.grounds.specs.Grounds.{firstGround, poolGrounds, EachAtLeast}
 use Rattle.grounds.specs.Grounds.Laws.{column-refused-as-pool}
-use Rattle.pool.specs.declared.Pool.{Pool}
-use Rattle.pool.specs.Stores.{Store, lengths}
-use Rattle.pool.specs.Calls.{columnRefusal, Prints, HoldsColumn}
+use Rattle.store.specs.declared.Pool.{Pool}
+use Rattle.store.specs.Stores.{Store, lengths}
+use Rattle.pool.specs.Calls.{columnRefusal, Prints}
 use Rattle.text.specs.Line.{Accepts}
 use Rattle.text.specs.Line.Laws.{one-line}
 use Rattle.text.specs.Table.{columnText, refusedText, refusedLine, Writes}
@@ -45,8 +49,9 @@ module _ {n p ρ : ℕ} where
   pub refused-answer : {refusal : ℕ} → refusal ≡ firstGround (poolGrounds largestPool n p ρ) → (refusal ≡ 0 → ⊥) → AnswersPool n p ρ (refusedText refusal)
   refused-answer is some = record { refused = λ _. ap refusedText is; table = λ none. absurd (some (is ∙ none)) }
 
-  pub table-answer : {units : List ℕ} → firstGround (poolGrounds largestPool n p ρ) ≡ 0 → HoldsColumn n p ρ units → AnswersPool n p ρ (columnText n units)
-  unfolding printedRow
+  pub table-answer : {units : List ℕ} → firstGround (poolGrounds largestPool n p ρ) ≡ 0
+      → HoldsColumn (tenths (tenthsFor n)) (defaults n p ρ) (keptDefaults Low n p ρ) units → AnswersPool n p ρ (columnText n units)
+  unfolding printedRow defaults
   table-answer {units} none holds = record {
     refused = λ some. absurd (some none);
     table = λ _. column-text n units _ _ (λ k l. omega (arith, holds .difference k l)) (holds .difference) (omega (arith, holds .difference n (le-refl n), holds .last));
