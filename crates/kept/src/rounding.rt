@@ -1,12 +1,12 @@
 // The steps of rounding: what the methods of a kept number are made of.
 ghost use mathlib.Core.Path.{_≡_};
-ghost use Prim.Native.Nat.{_*_, _≤_, _<_, _^_};
-ghost use lib.IntN.{pos, _-ℤ_};
+ghost use Prim.Native.Nat.{_*_, _/_, _≤_, _<_, _^_};
+ghost use lib.IntN.{pos, _+ℤ_, _-ℤ_};
 ghost use lib.Signed.{_≤ℤ_};
 ghost use Rattle.model.specs.Fraction.{Fraction, plus, divided};
-ghost use Rattle.kept.specs.Rounding.{Normal, Reach, Operand, scaled, value, increment, carry, round};
-ghost use Rattle.kept.specs.Rounding.Leading.{Between};
-ghost use Rattle.kept.specs.Rounding.Words.{shiftOf};
+ghost use Rattle.kept.specs.Rounding.{Normal, Reach, Operand, scaled, value, increment, round};
+ghost use Rattle.kept.specs.Rounding.Leading.{Between, Carried};
+ghost use Rattle.kept.specs.Rounding.Words.{shiftOf, RoundedDigits};
 ghost use Rattle.kept.specs.Rounding.Sums.{Gap};
 use super::Kept;
 use super::Side;
@@ -41,22 +41,18 @@ pub fn gap(e: i32, f: i32) -> u32
     if d < 32 { d } else { 32 }
 }
 
-// The exponent that goes with a significand: 0 for zero, one more for 2^32.
+// The exponent that goes with a significand: one more for 2^32.
 pub fn carried_exponent(significand: u64, exponent: i32) -> i32
     requires { ⌜ significand ≤ 2 ^ 32 ⌝ ∗ ⌜ Reach 2000000200 exponent ⌝ }
-    ensures { λ r. ⌜ r ≡ carry significand exponent .exponent ⌝ }
+    ensures { λ r. ⌜ r ≡ exponent +ℤ pos (significand / 2 ^ 32) ⌝ }
 {
-    if significand == 0 {
-        0
-    } else {
-        exponent + (significand >> 32) as i32
-    }
+    exponent + (significand >> 32) as i32
 }
 
-// A significand of 2^32 is halved, and the exponent one more: 2^31 is taken off there, and nothing below it.
+// A significand of 2^32 is halved, and the exponent one more: 2^31 is taken off there, and nothing below it. Zero keeps its exponent.
 pub fn carried(significand: u64, exponent: i32) -> Kept
     requires { ⌜ significand ≤ 2 ^ 32 ⌝ ∗ ⌜ Reach 2000000200 exponent ⌝ }
-    ensures { λ r. ⌜ r ≡ carry significand exponent ⌝ }
+    ensures { λ r. ⌜ Carried significand exponent r ⌝ }
 {
     let top = significand >> 32;
     Kept {
@@ -79,10 +75,10 @@ pub fn shifted_up(v: u64) -> u64
 }
 
 // Rounds once the number that is v × 2^exponent where rest is zero, and lies between that and (v + 1) × 2^exponent where rest is
-// not. In the second case v has to have all 32 digits that stay.
-pub fn round_once(v: u64, rest: u32, exponent: i32, side: Side) -> Kept
+// not. In the second case v has to have all 32 digits that stay. Of zero the exponent is left open.
+pub fn round_digits(v: u64, rest: u32, exponent: i32, side: Side) -> Kept
     requires { ⌜ Reach 2000000100 exponent ⌝ ∗ ⌜ (0 < rest → 2 ^ 31 ≤ v) ⌝ }
-    ensures { λ r. ⌜ ((z : Fraction) → Between v rest exponent z → r ≡ round side z) ⌝ }
+    ensures { λ r. ⌜ RoundedDigits side v rest exponent r ⌝ }
 {
     let w = shifted_up(v);
     let dropped = w % 0x1_0000_0000 + rest as u64;
@@ -90,6 +86,18 @@ pub fn round_once(v: u64, rest: u32, exponent: i32, side: Side) -> Kept
         (w >> 32) + one_more(side, dropped),
         lowered(exponent + 32, headroom(v)),
     )
+}
+
+// The same, with the exponent 0 for zero.
+pub fn round_once(v: u64, rest: u32, exponent: i32, side: Side) -> Kept
+    requires { ⌜ Reach 2000000100 exponent ⌝ ∗ ⌜ (0 < rest → 2 ^ 31 ≤ v) ⌝ }
+    ensures { λ r. ⌜ ((z : Fraction) → Between v rest exponent z → r ≡ round side z) ⌝ }
+{
+    let x = round_digits(v, rest, exponent, side);
+    Kept {
+        significand: x.significand,
+        exponent: if x.significand == 0 { 0 } else { x.exponent },
+    }
 }
 
 // n / m × 2^exponent rounded once.
@@ -110,5 +118,5 @@ pub fn add(x: Kept, y: Kept, side: Side) -> Kept
 {
     let d = gap(x.exponent, y.exponent);
     let v = ((x.significand as u64) << d) + y.significand as u64;
-    round_once(v, 0, lowered(x.exponent, d), side)
+    round_digits(v, 0, lowered(x.exponent, d), side)
 }

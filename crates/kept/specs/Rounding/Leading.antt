@@ -1,15 +1,14 @@
 -- The leading digits of a fraction, and its rounding from them.
 -- Assumes nothing.
 use Prim.Native.Nat.{ℕ, zero, suc, _+_, _-_, _*_, _/_, _%_, _^_, _≤_, _<_}
-use mathlib.Core.Path.{_≡_, refl, sym, ap}
+use mathlib.Core.Path.{_≡_, refl, sym, ap, _∙_}
 use mathlib.Core.Logic.{_⊎_, inl, inr}
-use mathlib.Core.Bool.{cond}
 use native.Mathlib.Nat.{sub-zero, add-zero, zero-mul, div-eq-of-lt, div-add-mod', mod-lt, zero-lt-suc, pow-succ', lt-of-not-le}
 use native.Mathlib.Nat.{mul-pos, mul-le-mul-left, mul-lt-mul-of-pos-right}
 use native.Mathlib.Numerals.{add-one}
 use native.Mathlib.Decide.{ℕ-discrete, decLe}
 use native.Mathlib.Omega.{arith}
-use lib.Dec.{eqb, lit<, lit≤}
+use lib.Dec.{lit<, lit≤}
 use lib.Arith.{lt-of-le-ne}
 use lib.Pow.{pow-pos}
 use lib.IntN.{ℤ, pos, _+ℤ_, +ℤ-idr}
@@ -127,7 +126,7 @@ lessTop s = s - s / 2 ^ 32 * 2 ^ 31 % 2 ^ 64
 less-top-below : {s : ℕ} → s < 2 ^ 32 → lessTop s ≡ s
 less-top-below {s} below = rw (div-eq-of-lt below) (sub-zero s)
 
-pub carry-significand : (s : ℕ) (e : ℤ) → s ≤ 2 ^ 32 → carry s e .significand ≡ lessTop s
+carry-significand : (s : ℕ) (e : ℤ) → s ≤ 2 ^ 32 → carry s e .significand ≡ lessTop s
 unfolding nought
 carry-significand s e most =
     by-carry (λ x. x .significand ≡ lessTop s) s e (λ is. rw is refl) (λ is. rw is refl) (λ _ not. sym (less-top-below (lt-of-le-ne most not)))
@@ -138,13 +137,27 @@ carry-below s most = elim (ℕ-discrete s (2 ^ 32)) [
   | no not-top ↦ let below = lt-of-le-ne most not-top in rw (less-top-below below) below
 ]
 
-pub carry-exponent : (s : ℕ) (e : ℤ) → s ≤ 2 ^ 32 → carry s e .exponent ≡ cond (eqb s 0) (pos 0) (e +ℤ pos (s / 2 ^ 32))
+carry-exponent : (s : ℕ) (e : ℤ) → s ≤ 2 ^ 32 → 0 < s → carry s e .exponent ≡ e +ℤ pos (s / 2 ^ 32)
 unfolding nought
-carry-exponent s e most =
-    by-carry (λ x. x .exponent ≡ cond (eqb s 0) (pos 0) (e +ℤ pos (s / 2 ^ 32))) s e
+carry-exponent s e most above =
+    by-carry (λ x. x .exponent ≡ e +ℤ pos (s / 2 ^ 32)) s e
+    (λ is. absurd (omega arith))
     (λ is. rw is refl)
-    (λ is. rw is refl)
-    (λ not-zero not-top. sym (rw (ne-eqb s 0 not-zero, div-eq-of-lt (lt-of-le-ne most not-top)) (+ℤ-idr e)))
+    (λ _ not-top. sym (rw (div-eq-of-lt (lt-of-le-ne most not-top)) (+ℤ-idr e)))
+
+-- What the carry makes of s × 2^e in code: of zero the exponent is left open.
+pub record Carried (s : ℕ) (e : ℤ) (r : Kept) : Type 0 where
+  pub above : 0 < s → r ≡ carry s e
+  pub none : s ≡ 0 → r .significand ≡ 0
+
+pub carry-made : {s : ℕ} {e : ℤ} {r : Kept} → s ≤ 2 ^ 32 → r .significand ≡ lessTop s → r .exponent ≡ e +ℤ pos (s / 2 ^ 32) → Carried s e r
+carry-made {s} {e} most significand exponent = record {
+  above = λ above. kept-fields (significand ∙ sym (carry-significand s e most)) (exponent ∙ sym (carry-exponent s e most above));
+  none = λ none. significand ∙ rw none refl;
+}
+  where
+    kept-fields : {x y : Kept} → x .significand ≡ y .significand → x .exponent ≡ y .exponent → x ≡ y
+    kept-fields same alike = rw (same, alike) refl
 
 -- ---- the rounding
 

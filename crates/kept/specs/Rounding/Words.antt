@@ -1,15 +1,17 @@
 -- Rounding a number of which 64 digits are known: they are shifted up until the highest is set, and the upper 32 stay.
 -- Assumes nothing.
 use Prim.Native.Nat.{ℕ, suc, _+_, _-_, _*_, _/_, _%_, _^_, _≤_, _<_}
-use mathlib.Core.Path.{_≡_, refl, sym, ap, _∙_}
+use mathlib.Core.Path.{_≡_, sym, ap, _∙_}
 use mathlib.Core.Logic.{inl, inr}
 use native.Mathlib.Nat.{eq-zero-or-pos, mul-le-mul-right, mul-lt-mul-of-pos-right}
 use native.Mathlib.Nat.{lt-of-mul-lt-mul-right, le-div-iff-mul-le, div-lt-iff-lt-mul, div-add-mod', mod-lt}
-use native.Mathlib.Nat.{two-pow-succ, mod-eq-of-lt, zero-mul, zero-mod}
+use native.Mathlib.Nat.{two-pow-succ, mod-eq-of-lt, zero-add, zero-mul, zero-mod}
 use native.Mathlib.Nat.{lt-irrefl}
 use native.Mathlib.Omega.{arith}
 use lib.Count.{leadingZeros, leading-top}
-use lib.Dec.{lit<}
+use mathlib.Core.Bool.{cond}
+use borrow.Author.Tests.{eq-eqb, ne-eqb}
+use lib.Dec.{eqb, lit<}
 use lib.Ieee.Digits.{back}
 use lib.Pow.{pow-add, pow-pos}
 use lib.IntN.{ℤ, pos, negℤ, _+ℤ_, _-ℤ_, +ℤ-assoc, +ℤ-comm, -ℤ-+ℤ-cancel}
@@ -18,10 +20,10 @@ use Rattle.model.specs.Fraction.Laws.{same-sym, at-most-of-same, at-most-antisy
 use Rattle.model.specs.Fraction.Laws.{at-most-trans, less-at-most-trans, at-most-less-trans}
 use Rattle.kept.specs.declared.Kept.{Kept}
 use Rattle.kept.specs.declared.Side.{Side}
-use Rattle.kept.specs.Rounding.{scaled, Normal, increment, carry, round}
+use Rattle.kept.specs.Rounding.{scaled, nought, Normal, increment, round}
 use Rattle.kept.specs.Rounding.Powers.{power-below, scaled-shift, shifted-at-most, shifted-less}
-use Rattle.kept.specs.Rounding.Leading.{Between, between-same, between-quotient, nought-least, nought-at}
-use Rattle.kept.specs.Rounding.Laws.{increment-none, nought-kept, round-leading, round-kept}
+use Rattle.kept.specs.Rounding.Leading.{Between, Carried, between-same, between-quotient, nought-least, nought-at}
+use Rattle.kept.specs.Rounding.Laws.{increment-none, nought-kept, round-leading, round-kept, round-rounded}
 
 -- ---- a word shifted up by its leading zeros
 
@@ -111,23 +113,46 @@ module _ {v : ℕ} (word : Shifted v) where
         ];
       }
 
--- v × 2^e, or more where rest is not zero, rounded from the upper digits of v.
-pub round-word : (side : Side) {v rest : ℕ} {e : ℤ} {z : Fraction} → Shifted v → (0 < rest → 2 ^ 31 ≤ v) → Between v rest e z
-    → carry (v * 2 ^ shiftOf v / 2 ^ 32 + increment side (v * 2 ^ shiftOf v % 2 ^ 32 + rest)) (e +ℤ pos 32 -ℤ pos (shiftOf v)) ≡ round side z
-round-word side {v} {rest} {e} {z} word large between = elim (eq-zero-or-pos v) [
-  | inl none ↦
-      let exact : rest ≡ 0 = elim (eq-zero-or-pos rest) [ inl exact ↦ exact | inr more ↦ absurd (omega (arith, large more)) ] in
-      let zero = at-most-trans (between .no-rest exact) (at-most-of-same (same-sym (nought-at v e none))) in
-      rw (none, exact, zero-mul) (rw (increment-none side) (unfold carry in refl))
-      ∙ round-kept side nought-kept (at-most-antisymm (nought-least z) zero)
-  | inr above ↦
+-- The number v × 2^e where rest is zero, and more than that where it is not, rounded once. Of zero the exponent is left open.
+pub record RoundedDigits (side : Side) (v rest : ℕ) (e : ℤ) (r : Kept) : Type 0 where
+  pub above : 0 < v → (z : Fraction) → Between v rest e z → r ≡ round side z
+  pub none : v ≡ 0 → r .significand ≡ 0
+
+-- Nothing is left where v is zero.
+no-rest : {v rest : ℕ} → (0 < rest → 2 ^ 31 ≤ v) → v ≡ 0 → rest ≡ 0
+no-rest {rest} large none = elim (eq-zero-or-pos rest) [ inl exact ↦ exact | inr more ↦ absurd (omega (arith, large more)) ]
+
+-- The upper digits of v, carried.
+pub digits-rounded : (side : Side) {v rest : ℕ} {e : ℤ} {r : Kept} → Shifted v → (0 < rest → 2 ^ 31 ≤ v)
+    → Carried (v * 2 ^ shiftOf v / 2 ^ 32 + increment side (v * 2 ^ shiftOf v % 2 ^ 32 + rest)) (e +ℤ pos 32 -ℤ pos (shiftOf v)) r
+    → RoundedDigits side v rest e r
+digits-rounded side {v} {rest} {e} word large carried = record {
+  above = λ above z between.
       let down = negℤ (pos (shiftOf v)) in
       let g = e +ℤ down in
       let there : e +ℤ pos 32 +ℤ down ≡ g +ℤ pos 32 =
       +ℤ-assoc e (pos 32) down ∙ ap (λ f. e +ℤ f) (+ℤ-comm (pos 32) down) ∙ sym (+ℤ-assoc e down (pos 32)) in
-      rw there
-      (round-leading side _ (normal-upper word above)
-      (between-upper word g (λ more. shifted-half word (large more)) (rw (← -ℤ-+ℤ-cancel e (pos (shiftOf v))) at between)))
+      let upper = normal-upper word above in
+      carried .above (omega (arith, upper .least))
+      ∙ rw there
+      (round-leading side _ upper
+      (between-upper word g (λ more. shifted-half word (large more)) (rw (← -ℤ-+ℤ-cancel e (pos (shiftOf v))) at between)));
+  none = λ none. carried .none (rw (none, no-rest large none, zero-mul) (zero-add (increment side 0) ∙ increment-none side));
+}
+
+-- With the exponent 0 for zero.
+pub rounded-once : {side : Side} {v rest : ℕ} {e : ℤ} {r : Kept} → (0 < rest → 2 ^ 31 ≤ v) → RoundedDigits side v rest e r
+    → (z : Fraction) → Between v rest e z → cond (eqb (r .significand) 0) nought r ≡ round side z
+rounded-once {side} {v} {e} {r} large rounded z between = elim (eq-zero-or-pos v) [
+  | inl none ↦
+      let zero = at-most-trans (between .no-rest (no-rest large none)) (at-most-of-same (same-sym (nought-at v e none))) in
+      rw (eq-eqb (r .significand) 0 (rounded .none none)) (round-kept side nought-kept (at-most-antisymm (nought-least z) zero))
+  | inr above ↦
+      let is = rounded .above above z between in
+      elim (rw (← is) at (round-rounded side z .kept) .form) [
+        | inl nothing ↦ rw (nothing) (unfold nought in (sym nothing ∙ is))
+        | inr normal ↦ rw (ne-eqb (r .significand) 0 (λ none. omega arith)) is
+      ]
 ]
 
 -- ---- a quotient

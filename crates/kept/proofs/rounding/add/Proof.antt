@@ -3,10 +3,11 @@
 use Prim.Native.Nat.{_+_, _*_, _%_, _^_, _<_}
 use mathlib.Core.Path.{_≡_, _∙_}
 use borrow.Author.Needs.{needs}
-use native.Mathlib.Nat.{mod-eq-of-lt}
+use native.Mathlib.Nat.{mod-eq-of-lt, mul-pos}
 use native.Mathlib.Omega.{arith}
 use lib.Dec.{lit<, lit≤}
 use lib.IntN.{pos, _-ℤ_}
+use lib.Pow.{pow-pos}
 use mir.Syntax.{w32}
 use mir.Val.{toZ, ofZ}
 use Rattle.model.specs.Fraction.Laws.{same-refl}
@@ -45,16 +46,20 @@ lowered-requires c κs =
     let reach = start after .pre .0 .reach in
     (rw (reach-back (lit< tt) reach) (reach-weaken (lit≤ tt) reach), omega (arith, gap-few (gap after)))
 
-round-once-requires : tie.Need-round-once-requires
-round-once-requires c κs =
+round-digits-requires : tie.Need-round-digits-requires
+round-digits-requires c κs =
     let reach = reach-minus (start (after-gap c) .pre .0 .reach) (reach-whole (gap-few (gap (after-gap c)))) in
     (rw (exponent c) (reach-weaken {n = 1000000032} (lit≤ tt) reach), λ none. absurd (omega arith))
+
+-- The first number is above zero.
+some : (c : tie.After-gap) → 0 < start c .args .x .significand * 2 ^ c .gap .result + start c .args .y .significand
+some c = let above : 0 < start c .args .x .significand = omega (arith, start c .pre .1 .1 .0 .least) in omega (arith, mul-pos above (pow-pos (c .gap .result)))
 
 returns : tie.Need-returns
 returns c =
     let after = after-gap (c .before) in
     let begin = start after in
-    (rw (whole after, exponent (c .before)) at (c .round-once .ensures)) _ (between-exact same-refl)
+    (rw (whole after, exponent (c .before)) at (c .round-digits .ensures)) .above (some after) _ (between-exact same-refl)
     ∙ round-sum (begin .args .side) (begin .args .x) (begin .args .y) (begin .pre .1 .1 .0) (begin .pre .1 .0 .kept) (gap after)
 
 pub add-spec : {M : Type 1} → statement M
@@ -66,5 +71,5 @@ add-spec =
     (λ c. search needs)
     (λ c. record { fits = omega (arith, whole (c .before .before), digits (c .before .before)) })
     lowered-requires
-    round-once-requires
+    round-digits-requires
     returns)

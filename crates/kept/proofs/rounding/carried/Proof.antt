@@ -4,20 +4,15 @@ use mathlib.Core.Path.{refl}
 use borrow.Author.Needs.{needs}
 use mir.Facts.{toZ-ofZ}
 use Rattle.kept.specs.Rounding.Exponents.{result-back}
-use Rattle.kept.specs.Rounding.Leading.{carry-significand, carry-below}
+use Rattle.kept.specs.Rounding.Leading.{carry-made, carry-below}
 use Rattle.kept.proofs.rounding.carried.Statement.{statement}
 use Rattle.kept.proofs.rounding.carried.Tie as tie
 
 returns : tie.Need-returns
 returns c =
     let start = c .before in
-    rw (
-      ← carry-significand (start .args .significand) (start .args .exponent) (start .pre .0),
-      result-back (c .carried-exponent .result) (c .carried-exponent .ok),
-      c .carried-exponent .ensures,
-      toZ-ofZ (start .fits .exponent),
-    )
-    refl
+    carry-made (start .pre .0) refl
+    (rw (result-back (c .carried-exponent .result) (c .carried-exponent .ok), c .carried-exponent .ensures, toZ-ofZ (start .fits .exponent)))
 
 pub carried-spec : {M : Type 1} → statement M
 carried-spec =

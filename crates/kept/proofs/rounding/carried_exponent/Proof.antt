@@ -1,9 +1,8 @@
 -- `carried_exponent` meets its contract.
 -- Assumes nothing.
 use Prim.Native.Nat.{_/_, _^_, _≤_}
-use mathlib.Core.Path.{_≡_, sym}
+use mathlib.Core.Path.{_≡_}
 use borrow.Author.Needs.{needs}
-use borrow.Author.Tests.{eq-eqb, ne-eqb}
 use native.Mathlib.Omega.{arith}
 use lib.Dec.{lit<}
 use lib.IntN.{pos, _+ℤ_}
@@ -11,7 +10,6 @@ use mir.Syntax.{w32}
 use mir.Val.{SFits, toZ, ofZ}
 use mir.Facts.{toZ-ofZ, toZ-pos}
 use Rattle.kept.specs.Rounding.Exponents.{reach-plus, reach-whole, reach-fits}
-use Rattle.kept.specs.Rounding.Leading.{carry-exponent}
 use Rattle.kept.proofs.rounding.carried_exponent.Statement.{statement}
 use Rattle.kept.proofs.rounding.carried_exponent.Tie as tie
 
@@ -27,15 +25,7 @@ total : (c : tie.Start)
 total c = rw (toZ-ofZ (c .fits .exponent), toZ-pos w32 {n = c .args .significand / 2 ^ 32} (omega (arith, little c)))
 
 returns : tie.Need-returns
-returns c =
-    let s = c .before .args .significand in
-    sym (rw (carry-exponent s (c .before .args .exponent) (c .before .pre .0), eq-eqb s 0 (c .if1 .taken)))
-
-returns-2 : tie.Need-returns-2
-returns-2 c =
-    let start = c .before in
-    let s = start .args .significand in
-    rw (total start, toZ-ofZ (fits start), carry-exponent s (start .args .exponent) (start .pre .0), ne-eqb s 0 (c .if1 .left))
+returns c = rw (total c, toZ-ofZ (fits c))
 
 pub carried-exponent-spec : {M : Type 1} → statement M
-carried-exponent-spec = tie.close (tie.spec (λ c. search needs) (λ c. rw (total (c .before)) (fits (c .before))) returns returns-2)
+carried-exponent-spec = tie.close (tie.spec (λ c. search needs) (λ c. rw (total c) (fits c)) returns)

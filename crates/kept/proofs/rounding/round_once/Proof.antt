@@ -1,70 +1,28 @@
 -- `round_once` meets its contract.
 -- Assumes nothing.
-use Prim.Native.Nat.{_<_, _≤_, _^_}
-use mathlib.Core.Path.{_≡_}
 use borrow.Author.Needs.{needs}
-use native.Mathlib.Nat.{le-of-lt}
-use native.Mathlib.Omega.{arith}
-use lib.Dec.{lit<, lit≤}
-use lib.IntN.{pos, _+ℤ_, _-ℤ_}
-use mir.Syntax.{w32}
-use mir.Val.{toZ, ofZ}
+use borrow.Author.Tests.{eq-eqb, ne-eqb}
 use mir.Facts.{toZ-ofZ}
-use Rattle.kept.specs.Rounding.{Reach}
-use Rattle.kept.specs.Rounding.Exponents.{reach-plus, reach-minus, reach-whole, reach-weaken, reach-fits, reach-back, result-back}
-use Rattle.kept.specs.Rounding.Leading.{increment-at-most-one}
-use Rattle.kept.specs.Rounding.Words.{shiftOf, Shifted, shifted, round-word}
+use mir.Syntax.{w32}
+use mir.Val.{SFits}
+use Rattle.kept.specs.Rounding.{nought}
+use Rattle.kept.specs.Rounding.Words.{RoundedDigits, rounded-once}
 use Rattle.kept.proofs.rounding.round_once.Statement.{statement}
 use Rattle.kept.proofs.rounding.round_once.Tie as tie
 
-word : (c : tie.Start) → Shifted (c .args .v)
-word c = shifted (c .fits .v .fits)
-
-shifted-below : (c : tie.After-shifted-up) → c .shifted-up .result < 2 ^ 64
-shifted-below c = rw (c .shifted-up .ensures) (word (c .before) .below)
-
-little : (c : tie.After-one-more) → c .one-more .result ≤ 1
-little c = rw (c .one-more .ensures) (increment-at-most-one _ _)
-
--- The exponent of the upper 32 digits, before the shift.
-upper : (c : tie.Start) → Reach 2000000132 (c .args .exponent +ℤ pos 32)
-upper c = reach-plus (c .pre .0) (reach-whole {n = 32} {m = 32} (lit≤ tt))
-
-abbrev start : tie.After-lowered → tie.Start
-start c = c .before .before .before .before
-
-exponent : (c : tie.After-lowered)
-    → toZ w32 (ofZ w32 (c .lowered .result)) ≡ start c .args .exponent +ℤ pos 32 -ℤ pos (shiftOf (start c .args .v))
-exponent c =
-    rw (result-back (c .lowered .result) (c .lowered .ok))
-    (rw (c .before .headroom .ensures, toZ-ofZ (start c .fits .exponent), reach-back (lit< tt) (upper (start c))) at (c .lowered .ensures))
-
-lowered-requires : tie.Need-lowered-requires
-lowered-requires c κs =
-    let start = c .before .before .before in
-    rw (toZ-ofZ (start .fits .exponent), reach-back (lit< tt) (upper start), c .headroom .ensures) (upper start, le-of-lt (word start .few))
-
-carried-requires : tie.Need-carried-requires
-carried-requires c κs = (
-  omega (arith, little (c .before .before), shifted-below (c .before .before .before)),
-  rw (exponent c) (reach-weaken {n = 2000000196} (lit≤ tt) (reach-minus (upper (start c)) (reach-whole (le-of-lt (word (start c) .few))))),
-)
+digits : (c : tie.After-round-digits)
+    → RoundedDigits (c .before .args .side) (c .before .args .v) (c .before .args .rest) (c .before .args .exponent) (c .round-digits .result)
+digits c = rw (toZ-ofZ (c .before .fits .exponent)) at (c .round-digits .ensures)
 
 returns : tie.Need-returns
-returns c = λ z between.
-    let begin = start (c .before) in
-    let added = c .before .before .before in
-    rw (c .carried .ensures, added .one-more .ensures, added .before .shifted-up .ensures, exponent (c .before))
-    (round-word (begin .args .side) (word begin) (begin .pre .1) between)
+unfolding nought
+returns c = λ z between. rw (c .if1 .taken) (rw (eq-eqb _ 0 (c .if1 .taken)) at (rounded-once (c .before .before .pre .1) (digits (c .before)) z between))
+
+returns-2 : tie.Need-returns-2
+returns-2 c = λ z between.
+    let made = c .before .before in
+    let fits : SFits w32 (made .round-digits .result .exponent) = search needs in
+    rw (toZ-ofZ fits) (rw (ne-eqb _ 0 (c .before .if1 .left)) at (rounded-once (made .before .pre .1) (digits made) z between))
 
 pub round-once-spec : {M : Type 1} → statement M
-round-once-spec =
-    tie.close
-    (tie.spec
-    (λ c κs. search needs) (λ c. search needs) (λ c κs. search needs)
-    (λ c. record { fits = omega (arith, little c, shifted-below (c .before)) })
-    (λ c. rw (toZ-ofZ (c .before .before .fits .exponent)) (reach-fits (lit< tt) (upper (c .before .before))))
-    (λ c κs. search needs)
-    lowered-requires
-    carried-requires
-    returns)
+round-once-spec = tie.close (tie.spec (λ c κs. search needs) returns returns-2)
