@@ -1,6 +1,6 @@
 -- Step 5 and the printed column over a working row.
 -- Assumes nothing.
-use Prim.Native.Nat.{ℕ, zero, suc, _+_, _-_, _≤_}
+use Prim.Native.Nat.{ℕ, suc, _+_, _-_, _≤_}
 use mathlib.Core.Path.{_≡_}
 use mathlib.Core.List.{List}
 use lib.ListN.{getD}
@@ -15,7 +15,7 @@ use Rattle.steps.specs.Exponents.{Ranged}
 use Rattle.steps.specs.Numbers.{TailNumber}
 use Rattle.steps.specs.Inputs.{workingAssets}
 use Rattle.working.specs.Working.{workingPlaces, Entries}
-use Rattle.working.specs.Slices.{tabulate, overwritten}
+use Rattle.working.specs.Slices.{tabulate, overwritten, entriesAfter}
 use Rattle.chances.specs.Chances.{StepsReady}
 pub mod Laws
 
@@ -64,10 +64,9 @@ pub record ColumnReady (n : ℕ) (row : List Kept) : Type 0 where
   pub at-most-two : (k : ℕ) → AtMost (value (keptTail Low n (keptChances Low n (steps .entry)) k)) (integer 2)
   pub falls : (k : ℕ) → printedTail n (keptChances Low n (steps .entry)) (suc k) ≤ printedTail n (keptChances Low n (steps .entry)) k
 
--- A slice of units after a call for n assets with the chances c of the low side: rows 0 to n of the column, then what stood there; untouched on a refusal.
-unfoldable pub unitsAfter : (n : ℕ) (c : ℕ → Kept) (refusal : ℕ) → List ℕ → List ℕ
-unitsAfter n c zero units = overwritten (tabulate (suc n) (printedRow n c)) units
-unitsAfter n c (suc r) units = units
+-- What is printed of it: the tails at 0 to n + 1, and rows 0 to n in a slice that held `old`.
+pub record RowTailsPrinted (n : ℕ) (row : List Kept) (printed : List ℕ) : Type 0 where
+  pub tails-are : (entry : ℕ → Kept) → Entries workingPlaces (suc n) row entry → Tails n printed (printedTail n (keptChances Low n entry))
 
 pub record ColumnPrinted (n : ℕ) (row : List Kept) (old new : List ℕ) : Type 0 where
-  pub units-are : (entry : ℕ → Kept) → Entries workingPlaces (suc n) row entry → new ≡ unitsAfter n (keptChances Low n entry) 0 old
+  pub units-are : (entry : ℕ → Kept) → Entries workingPlaces (suc n) row entry → new ≡ entriesAfter n (printedRow n (keptChances Low n entry)) 0 old

@@ -10,7 +10,7 @@ ghost use lib.ListN.{length};
 ghost use Rattle.model.specs.Fraction.{AtMost, integer};
 ghost use Rattle.kept.specs.Rounding.{IsKept, value};
 ghost use Rattle.steps.specs.Column.{inUnits};
-ghost use Rattle.chances.specs.Tails.{TailsReady, TailsMade, Printable, TailsPrinted, Falling, RowsPrinted, ColumnReady, ColumnPrinted};
+ghost use Rattle.chances.specs.Tails.{TailsReady, TailsMade, Printable, TailsPrinted, Falling, RowsPrinted, ColumnReady, RowTailsPrinted, ColumnPrinted};
 
 // The tails at 0 to n, and that past n.
 pub const TAILS: usize = PLACES + 1;
@@ -53,6 +53,16 @@ pub fn printed_tails(n: u32, tails: [Kept; TAILS]) -> [u32; TAILS]
     printed
 }
 
+// The printed tails at 0 to n + 1, from row n of the low side.
+pub fn print_tails(n: u32, row: [Kept; PLACES]) -> [u32; TAILS]
+    requires { ⌜ ColumnReady n row ⌝ }
+    ensures { λ r. ⌜ RowTailsPrinted n row r ⌝ }
+{
+    let low = chances(n, row, Side::Low);
+    let low_tails = tails(n, low, Side::Low);
+    printed_tails(n, low_tails)
+}
+
 // Rows 0 to n, from the printed tails, into the start of the slice.
 fn print_rows(n: u32, printed: [u32; TAILS], units: &mut [u32])
     requires { ⌜ Falling n printed ⌝ ∗ ⌜ n < length (now units) ⌝ }
@@ -69,8 +79,6 @@ pub fn print_column(n: u32, row: [Kept; PLACES], units: &mut [u32])
     requires { ⌜ ColumnReady n row ⌝ ∗ ⌜ n < length (now units) ⌝ }
     ensures { λ _. ⌜ ColumnPrinted n row (now (units .entry)) (now (units .exit)) ⌝ }
 {
-    let low = chances(n, row, Side::Low);
-    let low_tails = tails(n, low, Side::Low);
-    let printed = printed_tails(n, low_tails);
+    let printed = print_tails(n, row);
     print_rows(n, printed, units);
 }

@@ -7,7 +7,7 @@ ghost use mathlib.Core.Path.{_≡_};
 ghost use Prim.Native.Nat.{ℕ};
 ghost use lib.ListN.{length};
 ghost use Rattle.grounds.specs.Grounds.{firstGround, rowGrounds};
-ghost use Rattle.pool.specs.Demands.{lent, FillDemands, RowDemands, ColumnDemands, TrancheDemands};
+ghost use Rattle.pool.specs.Demands.{lent, FillDemands, RowDemands, ColumnDemands, ShiftDemands, TrancheDemands};
 
 pub fn fill(
     pool: Pool,
@@ -64,6 +64,31 @@ pub fn column(
         low_exponents,
         high_exponents,
         units,
+    )
+}
+
+pub fn shift_list(
+    pool: Pool,
+    low_significands: &mut [u32],
+    high_significands: &mut [u32],
+    low_exponents: &mut [i32],
+    high_exponents: &mut [i32],
+    shifts: &mut [i32],
+) -> u32
+    ensures { λ r. ⌜ ShiftDemands pool
+        (lent (now («low_significands» .entry)) (now («high_significands» .entry)) (now («low_exponents» .entry)) (now («high_exponents» .entry)))
+        (lent (now («low_significands» .exit)) (now («high_significands» .exit)) (now («low_exponents» .exit)) (now («high_exponents» .exit)))
+        (now (shifts .entry))
+        (now (shifts .exit))
+        r ⌝ }
+{
+    shift::shift_list(
+        pool,
+        low_significands,
+        high_significands,
+        low_exponents,
+        high_exponents,
+        shifts,
     )
 }
 

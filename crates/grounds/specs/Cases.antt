@@ -8,8 +8,8 @@ use lib.Dec.{eqb, ltb}
 use Rattle.model.specs.Fraction.{whole}
 use Rattle.steps.specs.Inputs.{largestPool}
 use Rattle.grounds.specs.Grounds.{Ground, firstOf, firstGround, storePlaces, someShorter, assetsGround, probabilityGround, correlationGround, recoveryGround, upperGround}
-use Rattle.grounds.specs.Grounds.{attachmentsGround, storeGround, columnGround, rowGround, poolGrounds, trancheGrounds}
-use Rattle.grounds.specs.Grounds.{fillGrounds, rowGrounds, columnGrounds, lossGrounds}
+use Rattle.grounds.specs.Grounds.{attachmentsGround, storeGround, entriesGround, rowGround, poolGrounds, trancheGrounds}
+use Rattle.grounds.specs.Grounds.{fillGrounds, rowGrounds, entriesGrounds, columnGrounds, shiftGrounds, lossGrounds}
 
 -- The first ground that applies: one that does gives its number, whatever follows; one that does not leaves it to the others; none gives 0.
 pub first : (m : ℕ) (gs : List Ground)
@@ -20,7 +20,7 @@ unfolding firstGround firstOf
 first m gs = (refl, refl, refl)
 
 -- Each ground in figures, for every input.
-pub figures : (n p ρ R A B k units : ℕ) (lengths : List ℕ)
+pub figures : (n p ρ R A B k units shifts : ℕ) (lengths : List ℕ)
     → (assetsGround largestPool n ≡ record { number = 1; applies = eqb n 0 || ltb 64 n })
     × (probabilityGround p ≡ record { number = 2; applies = ltb 10000 p })
     × (correlationGround ρ ≡ record { number = 3; applies = ltb 10000 ρ })
@@ -28,33 +28,35 @@ pub figures : (n p ρ R A B k units : ℕ) (lengths : List ℕ)
     × (upperGround B ≡ record { number = 5; applies = ltb 10000 B })
     × (attachmentsGround A B ≡ record { number = 6; applies = not (ltb A B) })
     × (storeGround n lengths ≡ record { number = 7; applies = someShorter ((n + 1) * (n + 2) / 2) lengths })
-    × (columnGround n units ≡ record { number = 8; applies = ltb units (n + 1) })
+    × (entriesGround 8 n units ≡ record { number = 8; applies = ltb units (n + 1) })
     × (rowGround n k ≡ record { number = 9; applies = ltb n k })
-unfolding assetsGround probabilityGround correlationGround recoveryGround upperGround attachmentsGround storeGround columnGround rowGround storePlaces largestPool whole
-figures n p ρ R A B k units lengths = (refl, refl, refl, refl, refl, refl, refl, refl, refl)
+    × (entriesGround 10 n shifts ≡ record { number = 10; applies = ltb shifts (n + 1) })
+unfolding assetsGround probabilityGround correlationGround recoveryGround upperGround attachmentsGround storeGround entriesGround rowGround storePlaces largestPool whole
+figures n p ρ R A B k units shifts lengths = (refl, refl, refl, refl, refl, refl, refl, refl, refl, refl)
 
 -- The grounds that each call checks, in order.
 abbrev numbers : List Ground → List ℕ
 numbers [] = []
 numbers (g ∷ gs) = g .number ∷ numbers gs
 
-pub orders : (most n p ρ R A B k units : ℕ) (lengths : List ℕ)
+pub orders : (most n p ρ R A B k units shifts : ℕ) (lengths : List ℕ)
     → (numbers (fillGrounds most n p ρ lengths) ≡ 1 ∷ 2 ∷ 3 ∷ 7 ∷ [])
     × (numbers (rowGrounds most n k units) ≡ 1 ∷ 7 ∷ 9 ∷ [])
     × (numbers (columnGrounds most n p ρ lengths units) ≡ 1 ∷ 2 ∷ 3 ∷ 7 ∷ 8 ∷ [])
+    × (numbers (shiftGrounds most n p ρ lengths shifts) ≡ 1 ∷ 2 ∷ 3 ∷ 7 ∷ 10 ∷ [])
     × (numbers (lossGrounds most n p ρ R A B lengths) ≡ 1 ∷ 2 ∷ 3 ∷ 4 ∷ 5 ∷ 6 ∷ 7 ∷ [])
-unfolding fillGrounds rowGrounds columnGrounds lossGrounds poolGrounds trancheGrounds assetsGround probabilityGround correlationGround recoveryGround upperGround attachmentsGround storeGround columnGround rowGround
-orders most n p ρ R A B k units lengths = (refl, refl, refl, refl)
+unfolding fillGrounds rowGrounds entriesGrounds columnGrounds shiftGrounds lossGrounds poolGrounds trancheGrounds assetsGround probabilityGround correlationGround recoveryGround upperGround attachmentsGround storeGround entriesGround rowGround
+orders most n p ρ R A B k units shifts lengths = (refl, refl, refl, refl, refl)
 
--- The numbers of the grounds that apply, of all nine.
+-- The numbers of the grounds that apply, of all ten.
 abbrev applying : List Ground → List ℕ
 applying [] = []
 applying (g ∷ gs) = cond (g .applies) (g .number ∷ applying gs) (applying gs)
 
-abbrev refusing : (n p ρ R A B : ℕ) (lengths : List ℕ) (units k : ℕ) → List ℕ
-refusing n p ρ R A B lengths units k =
+abbrev refusing : (n p ρ R A B : ℕ) (lengths : List ℕ) (units k shifts : ℕ) → List ℕ
+refusing n p ρ R A B lengths units k shifts =
     applying (assetsGround largestPool n ∷ probabilityGround p ∷ correlationGround ρ ∷ recoveryGround R ∷ upperGround B ∷ attachmentsGround A B
-    ∷ storeGround n lengths ∷ columnGround n units ∷ rowGround n k ∷ [])
+    ∷ storeGround n lengths ∷ entriesGround 8 n units ∷ rowGround n k ∷ entriesGround 10 n shifts ∷ [])
 
 -- Four slices, the last with a length of its own.
 abbrev slices : (places last : ℕ) → List ℕ
@@ -62,17 +64,18 @@ slices places last = places ∷ places ∷ places ∷ last ∷ []
 
 -- At the edge of every ground none applies, and one past it each alone.
 pub table :
-    (refusing 1 0 0 0 0 1 (slices 3 3) 2 1 ≡ [])
-    × (refusing 64 10000 10000 10000 9999 10000 (slices 2145 2145) 65 64 ≡ [])
-    × (refusing 0 0 0 0 0 1 (slices 3 3) 2 0 ≡ 1 ∷ [])
-    × (refusing 65 10000 10000 10000 9999 10000 (slices 2211 2211) 66 64 ≡ 1 ∷ [])
-    × (refusing 64 10001 10000 10000 9999 10000 (slices 2145 2145) 65 64 ≡ 2 ∷ [])
-    × (refusing 64 10000 10001 10000 9999 10000 (slices 2145 2145) 65 64 ≡ 3 ∷ [])
-    × (refusing 64 10000 10000 10001 9999 10000 (slices 2145 2145) 65 64 ≡ 4 ∷ [])
-    × (refusing 64 10000 10000 10000 9999 10001 (slices 2145 2145) 65 64 ≡ 5 ∷ [])
-    × (refusing 64 10000 10000 10000 10000 10000 (slices 2145 2145) 65 64 ≡ 6 ∷ [])
-    × (refusing 64 10000 10000 10000 9999 10000 (slices 2145 2144) 65 64 ≡ 7 ∷ [])
-    × (refusing 64 10000 10000 10000 9999 10000 (slices 2145 2145) 64 64 ≡ 8 ∷ [])
-    × (refusing 64 10000 10000 10000 9999 10000 (slices 2145 2145) 65 65 ≡ 9 ∷ [])
-unfolding assetsGround probabilityGround correlationGround recoveryGround upperGround attachmentsGround storeGround columnGround rowGround storePlaces someShorter largestPool whole
-table = (refl, refl, refl, refl, refl, refl, refl, refl, refl, refl, refl, refl)
+    (refusing 1 0 0 0 0 1 (slices 3 3) 2 1 2 ≡ [])
+    × (refusing 64 10000 10000 10000 9999 10000 (slices 2145 2145) 65 64 65 ≡ [])
+    × (refusing 0 0 0 0 0 1 (slices 3 3) 2 0 1 ≡ 1 ∷ [])
+    × (refusing 65 10000 10000 10000 9999 10000 (slices 2211 2211) 66 64 66 ≡ 1 ∷ [])
+    × (refusing 64 10001 10000 10000 9999 10000 (slices 2145 2145) 65 64 65 ≡ 2 ∷ [])
+    × (refusing 64 10000 10001 10000 9999 10000 (slices 2145 2145) 65 64 65 ≡ 3 ∷ [])
+    × (refusing 64 10000 10000 10001 9999 10000 (slices 2145 2145) 65 64 65 ≡ 4 ∷ [])
+    × (refusing 64 10000 10000 10000 9999 10001 (slices 2145 2145) 65 64 65 ≡ 5 ∷ [])
+    × (refusing 64 10000 10000 10000 10000 10000 (slices 2145 2145) 65 64 65 ≡ 6 ∷ [])
+    × (refusing 64 10000 10000 10000 9999 10000 (slices 2145 2144) 65 64 65 ≡ 7 ∷ [])
+    × (refusing 64 10000 10000 10000 9999 10000 (slices 2145 2145) 64 64 65 ≡ 8 ∷ [])
+    × (refusing 64 10000 10000 10000 9999 10000 (slices 2145 2145) 65 65 65 ≡ 9 ∷ [])
+    × (refusing 64 10000 10000 10000 9999 10000 (slices 2145 2145) 65 64 64 ≡ 10 ∷ [])
+unfolding assetsGround probabilityGround correlationGround recoveryGround upperGround attachmentsGround storeGround entriesGround rowGround storePlaces someShorter largestPool whole
+table = (refl, refl, refl, refl, refl, refl, refl, refl, refl, refl, refl, refl, refl)

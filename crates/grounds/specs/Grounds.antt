@@ -68,9 +68,9 @@ attachmentsGround A B = record { number = 6; applies = not (ltb A B) }
 unfoldable pub storeGround : (n : ℕ) (lengths : List ℕ) → Ground
 storeGround n lengths = record { number = 7; applies = someShorter (storePlaces n) lengths }
 
--- The slice of units has no room for rows 0 to n.
-unfoldable pub columnGround : (n units : ℕ) → Ground
-columnGround n units = record { number = 8; applies = ltb units (n + 1) }
+-- A slice beside the store has no room for its entries 0 to n. 8 is that of a column, 10 that of a shift list.
+unfoldable pub entriesGround : (number n places : ℕ) → Ground
+entriesGround number n places = record { number = number; applies = ltb places (n + 1) }
 
 -- There is no row k.
 unfoldable pub rowGround : (n k : ℕ) → Ground
@@ -94,9 +94,17 @@ fillGrounds most n p ρ lengths = poolGrounds most n p ρ ++ (storeGround n leng
 unfoldable pub rowGrounds : (most n k length : ℕ) → List Ground
 rowGrounds most n k length = assetsGround most n ∷ storeGround n (length ∷ []) ∷ rowGround n k ∷ []
 
+-- 1 to 3, 7, and then that of a slice beside the store.
+unfoldable pub entriesGrounds : (number most n p ρ : ℕ) (lengths : List ℕ) (places : ℕ) → List Ground
+entriesGrounds number most n p ρ lengths places = fillGrounds most n p ρ lengths ++ (entriesGround number n places ∷ [])
+
 -- 1 to 3, 7 and 8.
 unfoldable pub columnGrounds : (most n p ρ : ℕ) (lengths : List ℕ) (units : ℕ) → List Ground
-columnGrounds most n p ρ lengths units = fillGrounds most n p ρ lengths ++ (columnGround n units ∷ [])
+columnGrounds = entriesGrounds 8
+
+-- 1 to 3, 7 and 10.
+unfoldable pub shiftGrounds : (most n p ρ : ℕ) (lengths : List ℕ) (shifts : ℕ) → List Ground
+shiftGrounds = entriesGrounds 10
 
 -- 1 to 7.
 unfoldable pub lossGrounds : (most n p ρ R A B : ℕ) (lengths : List ℕ) → List Ground
@@ -121,9 +129,10 @@ pub record RowAccepted (n k length : ℕ) : Type 0 where
   pub store : triangle (suc n) ≤ length
   pub row : k ≤ n
 
-pub record ColumnAccepted (most n p ρ : ℕ) (lengths : List ℕ) (units : ℕ) : Type 0 where
+-- Of a call that also writes entries 0 to n to a slice beside the store: a column, a shift list.
+pub record EntriesAccepted (most n p ρ : ℕ) (lengths : List ℕ) (places : ℕ) : Type 0 where
   pub fill : FillAccepted most n p ρ lengths
-  pub column : n < units
+  pub entries : n < places
 
 pub record LossAccepted (most n p ρ R A B : ℕ) (lengths : List ℕ) : Type 0 where
   pub fill : FillAccepted most n p ρ lengths

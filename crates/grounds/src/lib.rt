@@ -6,7 +6,7 @@ ghost use mathlib.Core.Bool.{cond};
 ghost use mathlib.Core.List.{[], _∷_};
 ghost use Rattle.model.specs.Number.{triangle};
 ghost use Rattle.grounds.specs.Grounds.{firstOf, firstGround, storePlaces, fourLengths, assetsGround, storeGround};
-ghost use Rattle.grounds.specs.Grounds.{poolGrounds, trancheGrounds, fillGrounds, rowGrounds, columnGrounds, lossGrounds};
+ghost use Rattle.grounds.specs.Grounds.{poolGrounds, trancheGrounds, fillGrounds, rowGrounds, entriesGrounds, columnGrounds, shiftGrounds, lossGrounds};
 
 // The lengths of the four slices of a store.
 pub struct Lengths {
@@ -93,13 +93,33 @@ pub fn row_refusal(most: u32, n: u32, k: u32, length: usize) -> u32
     )
 }
 
+// 1 to 3 and 7, then that of a slice beside the store, which has so many places for entries 0 to n.
+fn entries_refusal(
+    number: u32,
+    most: u32,
+    n: u32,
+    p: u32,
+    rho: u32,
+    lengths: Lengths,
+    places: usize,
+) -> u32
+    ensures { λ r. ⌜ r ≡ firstGround (entriesGrounds number most n p rho (fourLengths lengths) places) ⌝ }
+{
+    let of_fill = fill_refusal(most, n, p, rho, lengths);
+    let of_entries = ground(number, places < n as usize + 1);
+    first(of_fill, of_entries)
+}
+
 pub fn column_refusal(most: u32, n: u32, p: u32, rho: u32, lengths: Lengths, units: usize) -> u32
     ensures { λ r. ⌜ r ≡ firstGround (columnGrounds most n p rho (fourLengths lengths) units) ⌝ }
 {
-    first(
-        fill_refusal(most, n, p, rho, lengths),
-        ground(8, units < n as usize + 1),
-    )
+    entries_refusal(8, most, n, p, rho, lengths, units)
+}
+
+pub fn shift_refusal(most: u32, n: u32, p: u32, rho: u32, lengths: Lengths, shifts: usize) -> u32
+    ensures { λ r. ⌜ r ≡ firstGround (shiftGrounds most n p rho (fourLengths lengths) shifts) ⌝ }
+{
+    entries_refusal(10, most, n, p, rho, lengths, shifts)
 }
 
 pub fn loss_refusal(

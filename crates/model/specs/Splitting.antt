@@ -5,9 +5,9 @@ use Prim.Native.Nat.{ℕ, zero, suc, _+_, _*_, _≤_, _<_}
 use mathlib.Core.Path.{_≡_, refl, _∙_, ap, ap₂}
 use native.Mathlib.Omega.{arith}
 use native.Mathlib.Nat.{add-suc, add-zero, suc-add, add-mul, zero-mul, lt-suc-self}
-use lib.IntN.{ℤ, pos, negℤ, _+ℤ_, +ℤ-assoc, +ℤ-comm, +ℤ-idr, +ℤ-negℤ-cancel, -ℤ-+ℤ-cancel, negℤ-+ℤ}
+use lib.IntN.{ℤ, pos, negℤ, _+ℤ_, +ℤ-comm, +ℤ-idr, +ℤ-negℤ-cancel, -ℤ-+ℤ-cancel, negℤ-+ℤ}
 use Rattle.model.specs.Number.{sum, choose, binomialSum, integerSum, signed, alternatingSum}
-use Rattle.model.specs.Number.Laws.{pascal, choose-past}
+use Rattle.model.specs.Number.Laws.{integer-interchange, pascal, choose-past}
 
 -- Down to row K, entry j of row k is the sum of entries j and j + 1 of row k + 1.
 abbrev pub Splits : ℕ → (ℕ → ℕ → ℕ) → Type 0
@@ -32,9 +32,6 @@ unfolding signed
 signed-zero zero = refl
 signed-zero (suc i) = cc (signed-zero i)
 
-interchange : (a b c d : ℤ) → (a +ℤ b) +ℤ (c +ℤ d) ≡ (a +ℤ c) +ℤ (b +ℤ d)
-interchange a b c d = cc (+ℤ-assoc a b (c +ℤ d), +ℤ-assoc b c d, +ℤ-comm b c, +ℤ-assoc c b d, +ℤ-assoc a c (b +ℤ d))
-
 -- The terms of an alternating sum.
 terms : ℕ → (ℕ → ℕ) → ℕ → ℤ
 terms d h i = signed i (choose d i * h i)
@@ -45,7 +42,7 @@ unfolding integerSum terms choose
 pascal-terms d zero h = +ℤ-idr _
 pascal-terms d (suc n) h =
     let next : ℕ → ℕ = λ i. h (suc i) in
-    interchange (integerSum (suc n) (terms (suc d) h)) (terms (suc d) h (suc n)) (integerSum n (terms d next)) (terms d next n)
+    integer-interchange (integerSum (suc n) (terms (suc d) h)) (terms (suc d) h (suc n)) (integerSum n (terms d next)) (terms d next n)
     ∙ ap₂ _+ℤ_ (pascal-terms d n h) (rw add-mul (signed-cancels n (choose d n * next n) (choose d (suc n) * next n)))
 
 alternating-pascal : (d : ℕ) (h : ℕ → ℕ) → alternatingSum (suc d) h +ℤ alternatingSum d (λ i. h (suc i)) ≡ alternatingSum d h

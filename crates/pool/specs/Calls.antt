@@ -6,12 +6,12 @@ use mathlib.Core.List.{List}
 use lib.ListN.{length}
 use Rattle.model.specs.CorrelatedBinomial.{defaults}
 use Rattle.kept.specs.declared.Side.the-variants.{Low}
-use Rattle.steps.specs.Column.{tenths}
+use Rattle.steps.specs.Column.{printedRow, tenths}
 use Rattle.steps.specs.Loss.{LossAnswer}
 use Rattle.steps.specs.CorrelatedBinomial.{keptDefaults}
 use Rattle.steps.specs.Inputs.{largestPool, distanceFor, tenthsFor}
 use Rattle.steps.specs.Promises.{HoldsColumn, HoldsLoss}
-use Rattle.chances.specs.Tails.{unitsAfter}
+use Rattle.working.specs.Slices.{entriesAfter}
 use Rattle.grounds.specs.Grounds.{firstGround, columnGrounds, lossGrounds}
 use Rattle.store.specs.declared.Pool.{Pool}
 use Rattle.store.specs.Stores.{Store, lengths}
@@ -29,7 +29,8 @@ columnRefusal pool s units =
 pub record Prints (pool : Pool) (before after : Store) (units units′ : List ℕ) (refusal : ℕ) : Type 0 where
   pub refusal-is : refusal ≡ columnRefusal pool before units
   pub leaves : LeavesStore pool before after refusal
-  pub units-are : units′ ≡ unitsAfter (pool .assets) (keptDefaults Low (pool .assets) (pool .probability) (pool .correlation)) refusal units
+  pub units-are : units′
+      ≡ entriesAfter (pool .assets) (printedRow (pool .assets) (keptDefaults Low (pool .assets) (pool .probability) (pool .correlation))) refusal units
   pub holds-column : refusal ≡ 0
       → HoldsColumn (tenths (tenthsFor (pool .assets))) (defaults (pool .assets) (pool .probability) (pool .correlation))
       (keptDefaults Low (pool .assets) (pool .probability) (pool .correlation)) units′

@@ -10,12 +10,12 @@ use mathlib.Core.Logic.{_⊎_}
 use mathlib.Core.Bool.{false}
 use mathlib.Core.List.{List, [], _∷_}
 use lib.Dec.{lit<}
-use lib.IntN.{ℤ, pos, negsuc}
+use lib.IntN.{ℤ, pos, negsuc, natAbs, _-ℤ_}
 use lib.Signed.{_≤ℤ_}
 use lib.ListN.{length, getD, drop}
 use lib.Ieee.{Float}
 use lib.Ieee.Exact.{HasValue}
-use Rattle.model.specs.Number.{sum}
+use Rattle.model.specs.Number.{sum, integerSum}
 use Rattle.model.specs.Fraction.{Fraction, Same, AtMost, Less, integer, plus, times}
 use Rattle.model.specs.Chances.{chance, tail, expectedLoss}
 use Rattle.model.specs.CorrelatedBinomial.{probability, defaults}
@@ -25,9 +25,10 @@ use Rattle.kept.specs.declared.Side.the-variants.{Low, High}
 use Rattle.kept.specs.Rounding.{scaled, value, nought}
 use Rattle.steps.specs.CorrelatedBinomial.Rows.{keptRow}
 use Rattle.steps.specs.Chances.{keptTail, keptLoss}
+use Rattle.steps.specs.Column.{printedTail}
 use Rattle.steps.specs.CorrelatedBinomial.{keptDefaults}
 use Rattle.steps.specs.CorrelatedBinomial.Exponents.{PoolNumber}
-use Rattle.grounds.specs.Grounds.{Ground, firstGround, fillGrounds, rowGrounds, columnGrounds, lossGrounds}
+use Rattle.grounds.specs.Grounds.{Ground, firstGround, fillGrounds, rowGrounds, columnGrounds, shiftGrounds, lossGrounds}
 use Rattle.store.specs.declared.Pool.{Pool}
 use Rattle.pool.specs.declared.Tranche.{Tranche}
 use Rattle.chances.specs.declared.Loss.{Loss}
@@ -69,6 +70,22 @@ pub record Demand3Column (n : ℕ) (exact : ℕ → Fraction) (units : List ℕ)
   pub total : sum (suc n) (λ k. getD units k 0) ≡ 100000
   pub not-above : (k : ℕ) → k ≤ n → Less (integer (getD units k 0)) (plus (times (integer 100000) (exact k)) oneAndAHalf)
   pub not-below : (k : ℕ) → k ≤ n → Less (times (integer 100000) (exact k)) (plus (integer (getD units k 0)) oneAndAHalf)
+
+-- 1.3
+unfoldable pub oneAndThreeTenths : Fraction
+oneAndThreeTenths = record { num = 13; den = 10; positive = lit< tt }
+
+-- Demand 3, of a shift list: entry k, as it stands in the slice, is the printed tail at k less that at another correlation. The entry at 0 is 0, and each is from
+-- −100,000 to 100,000. Each is less than 1.3 from 100,000 times what the exact tails differ by. Entries 1 to n add to less than 1.3 × n, above zero and below it.
+pub record Demand3Shifts (n : ℕ) (printed other : ℕ → ℕ) (exact exactOther : ℕ → Fraction) (shifts : List ℤ) : Type 0 where
+  pub entry : (k : ℕ) → k ≤ n → getD shifts k (pos 0) ≡ pos (printed k) -ℤ pos (other k)
+  pub at-zero : getD shifts 0 (pos 0) ≡ pos 0
+  pub between : (k : ℕ) → k ≤ n → natAbs (getD shifts k (pos 0)) ≤ 100000
+  pub not-above : (k : ℕ) → k ≤ n
+      → Less (plus (integer (printed k)) (times (integer 100000) (exactOther k))) (plus (plus (integer (other k)) (times (integer 100000) (exact k))) oneAndThreeTenths)
+  pub not-below : (k : ℕ) → k ≤ n
+      → Less (plus (integer (other k)) (times (integer 100000) (exact k))) (plus (plus (integer (printed k)) (times (integer 100000) (exactOther k))) oneAndThreeTenths)
+  pub total : Less (integer (natAbs (integerSum n (λ i. getD shifts (suc i) (pos 0))))) (times (integer n) oneAndThreeTenths)
 
 -- ---- what calls are given and leave
 
@@ -169,21 +186,32 @@ module _ (pool : Pool) where
         → BoundDemands (keptTail Low n (keptDefaults Low n p ρ) k) (keptTail High n (keptDefaults High n p ρ) k) (tail (defaults n p ρ) k)
     pub exponents : (side : Side) {x : Kept} → PoolNumber side n p ρ x → (negsuc 79999 ≤ℤ x .exponent) × (x .exponent ≤ℤ pos 100)
 
-  -- The places of rows 0 to n. `later`: those behind them keep their content.
+  -- The places of rows 0 to n.
   abbrev places : ℕ
   places = (n + 1) * (n + 2) / 2
 
-  pub record FillDemands (before after : Slices) (refusal : ℕ) : Type 0 where
-    pub one : Demand1 (fillGrounds 64 n p ρ (lengthsOf before)) refusal before after
+  -- What every call that fills the store leaves of it where it is accepted: the table, and behind it what stood there.
+  pub record StoreDemands (before after : Slices) (refusal : ℕ) : Type 0 where
     pub table : refusal ≡ 0 → TableDemands after
     pub later : refusal ≡ 0 → from places after ≡ from places before
 
+  pub record FillDemands (before after : Slices) (refusal : ℕ) : Type 0 where
+    pub one : Demand1 (fillGrounds 64 n p ρ (lengthsOf before)) refusal before after
+    pub store : StoreDemands before after refusal
+
   pub record ColumnDemands (before after : Slices) (units units′ : List ℕ) (refusal : ℕ) : Type 0 where
     pub one : Demand1 {Given = Slices × List ℕ} (columnGrounds 64 n p ρ (lengthsOf before) (length units)) refusal (before, units) (after, units′)
-    pub table : refusal ≡ 0 → TableDemands after
-    pub later : refusal ≡ 0 → from places after ≡ from places before
+    pub store : StoreDemands before after refusal
     pub column : refusal ≡ 0 → Demand3Column n (chance (defaults n p ρ)) units′
     pub later-rows : refusal ≡ 0 → drop (n + 1) units′ ≡ drop (n + 1) units
+
+  -- The other correlation is 0.
+  pub record ShiftDemands (before after : Slices) (shifts shifts′ : List ℤ) (refusal : ℕ) : Type 0 where
+    pub one : Demand1 {Given = Slices × List ℤ} (shiftGrounds 64 n p ρ (lengthsOf before) (length shifts)) refusal (before, shifts) (after, shifts′)
+    pub store : StoreDemands before after refusal
+    pub list : refusal ≡ 0
+        → Demand3Shifts n (printedTail n (keptDefaults Low n p ρ)) (printedTail n (keptDefaults Low n p 0)) (tail (defaults n p ρ)) (tail (defaults n p 0)) shifts′
+    pub later-entries : refusal ≡ 0 → drop (n + 1) shifts′ ≡ drop (n + 1) shifts
 
   module _ (tranche : Tranche) where
     abbrev R : ℕ
@@ -198,8 +226,7 @@ module _ (pool : Pool) where
     -- `wide`: what step 6 divides by is above zero.
     pub record TrancheDemands (before after : Slices) (answer : Answer) : Type 0 where
       pub one : Demand1 (lossGrounds 64 n p ρ R A B (lengthsOf before)) (refusalIn answer) before after
-      pub table : refusalIn answer ≡ 0 → TableDemands after
-      pub later : refusalIn answer ≡ 0 → from places after ≡ from places before
+      pub store : StoreDemands before after (refusalIn answer)
       pub wide : refusalIn answer ≡ 0 → 0 < (B - A) * n
       pub loss : refusalIn answer ≡ 0 → (wide : 0 < (B - A) * n)
           → AnswerDemands (keptLoss Low n (keptDefaults Low n p ρ) R A B wide) (keptLoss High n (keptDefaults High n p ρ) R A B wide)

@@ -16,6 +16,10 @@ distanceFor n = 100000
 unfoldable pub tenthsFor : ℕ → ℕ
 tenthsFor n = 15
 
+-- Entries 1 to n of a shift list add to less than so many tenths of a unit for each asset, above zero and below it.
+unfoldable pub shiftTenths : ℕ
+shiftTenths = 13
+
 -- The most assets that a working row has places for.
 unfoldable pub workingAssets : ℕ
 workingAssets = 64

@@ -3,6 +3,7 @@ pub mod Counts
 pub mod Budgets
 pub mod Chances
 pub mod Column
+pub mod Shifts
 pub mod Loss
 pub mod Enclosure
 pub mod Exponents

@@ -4,14 +4,16 @@ use Prim.Native.Nat.{ℕ, suc, _+_, _-_, _*_, _≤_, _<_}
 use mathlib.Core.Path.{_≡_}
 use mathlib.Core.List.{List}
 use lib.ListN.{getD}
-use Rattle.model.specs.Number.{sum}
-use Rattle.model.specs.Fraction.{Fraction, integer, whole}
+use lib.IntN.{ℤ, pos, natAbs}
+use Rattle.model.specs.Number.{sum, integerSum}
+use Rattle.model.specs.Fraction.{Fraction, Less, integer, plus, times, whole}
 use Rattle.model.specs.Chances.{Chances, chance, tail, expectedLoss}
 use Rattle.kept.specs.declared.Kept.{Kept}
 use Rattle.kept.specs.declared.Side.{Side}
 use Rattle.kept.specs.declared.Side.the-variants.{Low, High}
 use Rattle.steps.specs.Chances.{keptTail, keptLoss}
 use Rattle.steps.specs.Column.{unitsOfCertainty, printedTail, exactUnits, Within}
+use Rattle.steps.specs.Shifts.{tailShift}
 use Rattle.steps.specs.Enclosure.{Enclosed}
 use Rattle.steps.specs.Exponents.{Ranged}
 use Rattle.steps.specs.Loss.{LossAnswer, lossAnswer, Says}
@@ -39,6 +41,17 @@ pub record HoldsColumn (off : Fraction) (r : Chances) (low : ℕ → Kept) (unit
   pub difference : (k : ℕ) → k ≤ r .assets → getD units k 0 + printedTail (r .assets) low (suc k) ≡ printedTail (r .assets) low k
   pub last : getD units (r .assets) 0 ≡ printedTail (r .assets) low (r .assets)
   pub near : (k : ℕ) → k ≤ r .assets → Within off (integer (getD units k 0)) (exactUnits (chance r k))
+
+-- What holds of a shift list that stands in a slice, from the chances of the low side of a row r and of a row s for as many assets: entry k is the printed tail
+-- at k of the first less that of the second, that at 0 is 0, and each is from −100,000 to 100,000; each is less than `off` units from what the exact tails differ
+-- by; entries 1 to n add to less than n × `off` units, above zero and below it.
+pub record HoldsShifts (off : Fraction) (r s : Chances) (low base : ℕ → Kept) (shifts : List ℤ) : Type 0 where
+  pub entry : (k : ℕ) → k ≤ r .assets → getD shifts k (pos 0) ≡ tailShift (r .assets) low base k
+  pub at-zero : getD shifts 0 (pos 0) ≡ pos 0
+  pub between : (k : ℕ) → k ≤ r .assets → natAbs (getD shifts k (pos 0)) ≤ unitsOfCertainty
+  pub near : (k : ℕ) → k ≤ r .assets
+      → Within off (plus (integer (printedTail (r .assets) low k)) (exactUnits (tail s k))) (plus (integer (printedTail (r .assets) base k)) (exactUnits (tail r k)))
+  pub total : Less (integer (natAbs (integerSum (r .assets) (λ i. getD shifts (suc i) (pos 0))))) (times (integer (r .assets)) off)
 
 -- What holds of a tranche loss that is answered: it is the one that the bounds of step 6 give, which enclose the exact loss and are at most one part in g apart;
 -- and what its case says of them.

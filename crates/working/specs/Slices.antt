@@ -18,6 +18,12 @@ tabulate (suc m) f = tabulate m f ++ (f m ∷ [])
 unfoldable pub overwritten : {A : Type 0} → (new old : List A) → List A
 overwritten new old = new ++ drop (length new) old
 
+-- A slice after a call that writes f 0 to f n to its start: later places keep their content. On a refusal it is untouched, the scope paper's term for a slice that
+-- keeps all of it.
+unfoldable pub entriesAfter : {A : Type 0} (n : ℕ) (f : ℕ → A) (refusal : ℕ) → List A → List A
+entriesAfter n f zero old = overwritten (tabulate (suc n) f) old
+entriesAfter n f (suc r) old = old
+
 -- ---- one side
 
 -- One side of a store: a slice of significands and one of exponents.

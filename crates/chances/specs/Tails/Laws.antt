@@ -20,11 +20,11 @@ use Rattle.steps.specs.Exponents.Laws.{ranged-operand}
 use Rattle.steps.specs.Numbers.{is-chance, is-tail, of-chances, of-tails}
 use Rattle.working.specs.Working.{workingPlaces, Entries}
 use Rattle.working.specs.Working.Laws.{entries-more, Changed}
-use Rattle.working.specs.Slices.{tabulate, overwritten}
-use Rattle.working.specs.Slices.Laws.{changed-overwritten}
+use Rattle.working.specs.Slices.{tabulate, overwritten, entriesAfter}
+use Rattle.working.specs.Slices.Laws.{tabulate-same, changed-overwritten}
 use Rattle.chances.specs.Chances.{StepsReady}
 use Rattle.chances.specs.Chances.Laws.{entry-operand}
-use Rattle.chances.specs.Tails.{Tails, TailsReady, TailsMade, Printable, TailsPrinted, Falling, RowsPrinted, ColumnReady, unitsAfter}
+use Rattle.chances.specs.Tails.{Tails, TailsReady, TailsMade, Printable, TailsPrinted, Falling, RowsPrinted, ColumnReady}
 
 -- ---- tails
 
@@ -180,15 +180,10 @@ module _ {n : ℕ} {row : List Kept} (ready : ColumnReady n row) where
     falls = λ k l. rw (add-one k, made .entry 0 k (omega arith), made .entry 0 (suc k) (omega arith)) (ready .falls k);
   }
 
-tabulate-same : {f g : ℕ → ℕ} (m : ℕ) → ((i : ℕ) → i < m → f i ≡ g i) → tabulate m f ≡ tabulate m g
-unfolding tabulate
-tabulate-same zero same = refl
-tabulate-same (suc m) same = rw (tabulate-same m (λ i l. same i (omega arith)), same m (omega arith))
-
 -- Rows from printed tails are those of the column.
 pub rows-are : {n : ℕ} (c : ℕ → Kept) {printed old new : List ℕ} → Tails n printed (printedTail n c) → RowsPrinted n printed old new
-    → new ≡ unitsAfter n c 0 old
-unfolding unitsAfter printedRow
+    → new ≡ entriesAfter n (printedRow n c) 0 old
+unfolding entriesAfter printedRow
 rows-are {n} c {old} made printed =
     printed .rows
     ∙ ap (λ rows. overwritten rows old)

@@ -1,20 +1,10 @@
 -- `column_refusal` meets its contract.
 -- Assumes nothing.
-use mathlib.Core.Path.{refl}
-use mathlib.Core.List.{[], _∷_}
 use borrow.Author.Needs.{needs}
-use Rattle.grounds.specs.Grounds.{firstGround, columnGround, fillGrounds, columnGrounds}
-use Rattle.grounds.specs.Grounds.Laws.{first-of-both, first-last}
+use Rattle.grounds.specs.Grounds.{columnGrounds}
 use Rattle.grounds.proofs.column_refusal.Statement.{statement}
 use Rattle.grounds.proofs.column_refusal.Tie as tie
 
-returns : tie.Need-returns
-unfolding firstGround columnGrounds columnGround
-returns c =
-    let parts = c .before .before in
-    let args = parts .before .args in
-    first-of-both (fillGrounds _ _ _ _ _) (columnGround (args .n) (args .units) ∷ []) (c .first .ensures) (parts .fill-refusal .ensures)
-    (rw (c .before .ground .ensures, first-last) refl)
-
 pub column-refusal-spec : {M : Type 1} → statement M
-column-refusal-spec = tie.close (tie.spec (λ c κs. search needs) (λ c. search needs) (λ c κs. search needs) (λ c κs. search needs) returns)
+unfolding columnGrounds
+column-refusal-spec = tie.close (tie.spec (λ c κs. search needs) (λ c. search needs))

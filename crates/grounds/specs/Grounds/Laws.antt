@@ -6,16 +6,16 @@ use mathlib.Core.Bool.{Bool, true, false, cond, _&&_, _||_, true≢false}
 use mathlib.Core.List.{List, [], _∷_, _++_}
 use native.Mathlib.Nat.{le-trans, mul-le-mul}
 use native.Mathlib.Omega.{arith}
-use borrow.Author.Tests.{ltb-false, eqb-false, not-false, ltb-true, le-ltb}
+use borrow.Author.Tests.{ltb-false, eqb-false, not-false, ltb-true, lt-ltb, le-ltb}
 use lib.Dec.{T, eqb, ltb, ltb→lt, lit≤}
 use Rattle.model.specs.Fraction.{whole}
 use Rattle.model.specs.Number.{triangle}
 use Rattle.model.specs.Number.Laws.{triangle-closed, triangle-mono}
 use Rattle.steps.specs.Inputs.{TrancheInRange}
 use Rattle.grounds.specs.Grounds.{Ground, firstOf, firstGround, storePlaces, someShorter, assetsGround, probabilityGround, correlationGround}
-use Rattle.grounds.specs.Grounds.{recoveryGround, upperGround, attachmentsGround, storeGround, columnGround, rowGround, poolGrounds, trancheGrounds}
-use Rattle.grounds.specs.Grounds.{fillGrounds, rowGrounds, columnGrounds, lossGrounds}
-use Rattle.grounds.specs.Grounds.{PoolAccepted, EachAtLeast, FillAccepted, RowAccepted, ColumnAccepted, LossAccepted}
+use Rattle.grounds.specs.Grounds.{recoveryGround, upperGround, attachmentsGround, storeGround, entriesGround, rowGround, poolGrounds, trancheGrounds}
+use Rattle.grounds.specs.Grounds.{fillGrounds, rowGrounds, entriesGrounds, columnGrounds, lossGrounds}
+use Rattle.grounds.specs.Grounds.{PoolAccepted, EachAtLeast, FillAccepted, RowAccepted, EntriesAccepted, LossAccepted}
 
 pub store-places : (n : ℕ) → storePlaces n ≡ triangle (suc n)
 unfolding storePlaces
@@ -151,14 +151,15 @@ row-accepted most n k length is none =
       row = ltb-false n k (off .1 .1 .0);
     }
 
-pub column-accepted : {r : ℕ} (most n p ρ : ℕ) (lengths : List ℕ) (units : ℕ) → r ≡ firstGround (columnGrounds most n p ρ lengths units) → r ≡ 0
-    → ColumnAccepted most n p ρ lengths units
-unfolding columnGrounds columnGround
-column-accepted most n p ρ lengths units is none =
-    let parts = none-of-both (fillGrounds most n p ρ lengths) (columnGround n units ∷ []) is none in
+pub entries-accepted : {r : ℕ} (number most n p ρ : ℕ) (lengths : List ℕ) (places : ℕ) → r ≡ firstGround (entriesGrounds (suc number) most n p ρ lengths places)
+    → r ≡ 0 → EntriesAccepted most n p ρ lengths places
+unfolding entriesGrounds entriesGround
+entries-accepted number most n p ρ lengths places is none =
+    let parts = none-of-both (fillGrounds most n p ρ lengths) (entriesGround (suc number) n places ∷ []) is none in
+    let above : T (ltb 0 (suc number) && true) = rw (lt-ltb 0 (suc number) (omega arith)) tt in
     record {
       fill = fill-accepted most n p ρ lengths refl (parts .0);
-      column = omega (arith, ltb-false units (n + 1) (none-applies (columnGround n units ∷ []) tt refl (parts .1) .0));
+      entries = omega (arith, ltb-false places (n + 1) (none-applies (entriesGround (suc number) n places ∷ []) above refl (parts .1) .0));
     }
 
 pub loss-accepted : {r : ℕ} (most n p ρ R A B : ℕ) (lengths : List ℕ) → r ≡ firstGround (lossGrounds most n p ρ R A B lengths) → r ≡ 0
@@ -191,10 +192,10 @@ none-shorter {m} (l ∷ ls) few each = rw (le-ltb l m (le-trans few (each .0))) 
 -- With slices that have room for the ceiling, a column is refused as its pool is: 7 and 8 apply to no pool that 1 to 3 accept.
 pub column-refused-as-pool : (most n p ρ : ℕ) (lengths : List ℕ) (units : ℕ) → EachAtLeast (triangle (suc most)) lengths → most < units
     → firstGround (columnGrounds most n p ρ lengths units) ≡ firstGround (poolGrounds most n p ρ)
-unfolding firstOf firstGround columnGrounds fillGrounds storeGround columnGround
+unfolding firstOf firstGround columnGrounds entriesGrounds fillGrounds storeGround entriesGround
 column-refused-as-pool most n p ρ lengths units store column =
     rw (
-      ← first-append (fillGrounds most n p ρ lengths) (columnGround n units ∷ []),
+      ← first-append (fillGrounds most n p ρ lengths) (entriesGround 8 n units ∷ []),
       ← first-append (poolGrounds most n p ρ) (storeGround n lengths ∷ []),
       first-alone (firstGround (poolGrounds most n p ρ)) _ no-store,
     ) (first-alone (firstGround (poolGrounds most n p ρ)) _ no-column)
@@ -207,5 +208,5 @@ column-refused-as-pool most n p ρ lengths units store column =
         let places : storePlaces n ≤ triangle (suc most) = rw store-places (triangle-mono (omega (arith, few none))) in
         rw (none-shorter lengths places store) refl
 
-    no-column : firstGround (poolGrounds most n p ρ) ≡ 0 → firstGround (columnGround n units ∷ []) ≡ 0
+    no-column : firstGround (poolGrounds most n p ρ) ≡ 0 → firstGround (entriesGround 8 n units ∷ []) ≡ 0
     no-column none = rw (le-ltb units (n + 1) (omega (arith, few none))) refl

@@ -2,7 +2,7 @@
 -- Assumes nothing.
 use Prim.Native.Nat.{ℕ, zero, suc, _+_, _*_, _^_, _≤_, _<_}
 use mathlib.Core.Path.{_≡_, ap}
-use native.Mathlib.Nat.{add-sub-of-le, sub-le, pow-succ', mul-le-mul, mul-le-mul-right, lt-of-not-le}
+use native.Mathlib.Nat.{add-sub-of-le, sub-le, pow-succ', mul-pos, mul-le-mul, mul-le-mul-right, mul-lt-mul-of-pos-right, lt-of-not-le}
 use native.Mathlib.Nat.{eq-of-mul-eq-mul-right, le-of-mul-le-mul-right}
 use native.Mathlib.Omega.{arith}
 use lib.Dec.{lit≤}
@@ -65,6 +65,18 @@ plus-mono {x} {y} {v} {w} l m =
 pub plus-more : (x y : Fraction) → AtMost x (plus x y)
 unfolding plus
 plus-more x y = omega arith
+
+pub plus-less : {x y v w : Fraction} → AtMost x y → Less v w → Less (plus x v) (plus y w)
+unfolding plus
+plus-less {x} {y} {v} {w} l m =
+    omega (arith, mul-le-mul-right (v .den * w .den) (l .cross), mul-lt-mul-of-pos-right (m .cross) (mul-pos (x .positive) (y .positive)))
+
+-- What is on both sides of an order may be left out.
+pub plus-cancel : {x v w : Fraction} (y c : Fraction) → Same v w → Less (plus x w) (plus (plus y v) c) → Less x (plus y c)
+unfolding plus
+plus-cancel {x} {v} {w} y c same l =
+    let moved : Same (plus (plus y v) c) (plus (plus y c) v) = omega arith in
+    less-of-not (λ back. not-both (at-most-trans (at-most-of-same moved) (plus-mono back (at-most-of-same same))) l)
 
 pub times-mono : {x y v w : Fraction} → AtMost x y → AtMost v w → AtMost (times x v) (times y w)
 unfolding times

@@ -1,11 +1,14 @@
--- Laws of finite sums, binomial coefficients and triangle numbers.
+-- Laws of finite sums, differences, binomial coefficients and triangle numbers.
 -- Assumes nothing.
 use Prim.Native.Nat.{ℕ, zero, suc, _+_, _*_, _-_, _^_, _≤_, _<_, suc-le-suc}
-use mathlib.Core.Path.{_≡_, refl, sym, ap}
+use mathlib.Core.Path.{_≡_, refl, sym, ap, ap₂, _∙_}
 use native.Mathlib.Nat.{suc-sub-suc, sub-eq-zero-of-le, le-step, le-of-suc-le-suc, le-of-eq, le-of-lt, le-antisymm, lt-suc-self, add-zero, zero-add, add-suc, suc-add, add-sub-of-le, add-mul, mul-le-mul, pow-succ'}
+use native.Mathlib.Decide.{decLe}
 use native.Mathlib.Omega.{arith}
+use borrow.Author.Tests.{lt-ltb, le-ltb}
 use lib.Pow.{pow-pos}
-use Rattle.model.specs.Number.{sum, sumBetween, choose, factorial, triangle, binomialSum}
+use lib.IntN.{ℤ, pos, negℤ, natAbs, _+ℤ_, _-ℤ_, +ℤ-assoc, +ℤ-comm, negℤ-+ℤ}
+use Rattle.model.specs.Number.{sum, sumBetween, integerSum, choose, factorial, triangle, binomialSum}
 
 -- ---- sums
 
@@ -74,6 +77,29 @@ between-total (suc n) f =
       between-none n f (lt-suc-self n),
       between-total n f,
     )
+
+-- ---- differences, as integers
+
+-- How large the difference of two natural numbers is.
+pub difference-size : (a b : ℕ) → natAbs (pos a -ℤ pos b) ≡ (a - b) + (b - a)
+difference-size a zero = omega arith
+difference-size a (suc b) = elim (decLe (suc b) a) [
+  | yes l ↦ rw (le-ltb a (suc b) l) (omega arith)
+  | no l ↦ rw (lt-ltb a (suc b) (omega arith)) (omega arith)
+]
+
+pub integer-interchange : (a b c d : ℤ) → (a +ℤ b) +ℤ (c +ℤ d) ≡ (a +ℤ c) +ℤ (b +ℤ d)
+integer-interchange a b c d = cc (+ℤ-assoc a b (c +ℤ d), +ℤ-assoc b c d, +ℤ-comm b c, +ℤ-assoc c b d, +ℤ-assoc a c (b +ℤ d))
+
+-- Terms that are a difference of two add to the difference of the sums.
+pub differences-total : (n : ℕ) (h : ℕ → ℤ) (f g : ℕ → ℕ) → ((i : ℕ) → i < n → h i ≡ pos (f i) -ℤ pos (g i))
+    → integerSum n h ≡ pos (sum n f) -ℤ pos (sum n g)
+unfolding integerSum sum
+differences-total zero h f g e = refl
+differences-total (suc n) h f g e =
+    ap₂ _+ℤ_ (differences-total n h f g (λ i l. e i (le-step l))) (e n (lt-suc-self n))
+    ∙ integer-interchange (pos (sum n f)) (negℤ (pos (sum n g))) (pos (f n)) (negℤ (pos (g n)))
+    ∙ ap (λ z. pos (sum n f + f n) +ℤ z) (sym (negℤ-+ℤ (pos (sum n g)) (pos (g n))))
 
 -- ---- binomial coefficients
 

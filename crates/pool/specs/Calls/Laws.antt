@@ -1,11 +1,9 @@
 -- What the calls on a pool promise, from what the steps give; and what an accepted call's inputs give the functions below it.
 -- Assumes nothing.
-use Prim.Native.Nat.{ℕ, zero, suc, _≤_, _<_}
+use Prim.Native.Nat.{ℕ, suc, _≤_, _<_}
 use mathlib.Core.Path.{_≡_, refl}
 use mathlib.Core.List.{List}
-use native.Mathlib.Omega.{arith}
 use native.Mathlib.Nat.{le-trans}
-use lib.ListN.{getD}
 use Rattle.model.specs.Chances.Laws.{tranche-wide}
 use Rattle.model.specs.CorrelatedBinomial.{defaults}
 use Rattle.kept.specs.declared.Kept.{Kept}
@@ -22,9 +20,9 @@ use Rattle.steps.specs.CorrelatedBinomial.Budgets.{defaultsBudget, poolBudget}
 use Rattle.steps.specs.CorrelatedBinomial.Rows.{keptRow}
 use Rattle.steps.specs.CorrelatedBinomial.Theorems.{within, pool-budget, column, answer}
 use Rattle.working.specs.Working.{workingPlaces, Entries}
-use Rattle.working.specs.Slices.{tabulate}
-use Rattle.working.specs.Slices.Laws.{length-tabulate, getD-tabulate, overwritten-at}
-use Rattle.chances.specs.Tails.{ColumnReady, unitsAfter}
+use Rattle.working.specs.Slices.{entriesAfter}
+use Rattle.working.specs.Slices.Laws.{entries-at}
+use Rattle.chances.specs.Tails.{ColumnReady}
 use Rattle.chances.specs.Loss.{TrancheReady}
 use Rattle.chances.specs.Chances.Ready.{column-ready, tranche-ready}
 use Rattle.grounds.specs.Grounds.{PoolAccepted}
@@ -48,23 +46,10 @@ module _ {n p ρ : ℕ} (range : InRange largestPool n p ρ) where
   unfolding defaults poolBudget defaultsBudget
   tranche-is-ready not-empty tranche low high = tranche-ready (within range) works (pool-budget range) low high not-empty tranche
 
-  module _ (units : List ℕ) {units′ : List ℕ} (is : units′ ≡ unitsAfter n (keptDefaults Low n p ρ) 0 units) where
-    row-printed : (k : ℕ) → k ≤ n → getD units′ k 0 ≡ printedRow n (keptDefaults Low n p ρ) k
-    unfolding unitsAfter
-    row-printed k l =
-        let rows : List ℕ = tabulate (suc n) (printedRow n (keptDefaults Low n p ρ)) in
-        let low : k < suc n = omega arith in
-        rw (is, overwritten-at rows units k 0 (rw (length-tabulate (suc n) (printedRow n (keptDefaults Low n p ρ))) low))
-        (getD-tabulate (suc n) (printedRow n (keptDefaults Low n p ρ)) k 0 low)
-
-    pub printed-holds : HoldsColumn (tenths (tenthsFor n)) (defaults n p ρ) (keptDefaults Low n p ρ) units′
-    unfolding defaults
-    printed-holds = column-holds (column range) row-printed
-
-pub units-untouched : (n : ℕ) (c : ℕ → Kept) (refusal : ℕ) {units : List ℕ} → (refusal ≡ 0 → ⊥) → units ≡ unitsAfter n c refusal units
-unfolding unitsAfter
-units-untouched n c zero some = absurd (some refl)
-units-untouched n c (suc r) some = refl
+  pub printed-holds : (units : List ℕ) {units′ : List ℕ} → units′ ≡ entriesAfter n (printedRow n (keptDefaults Low n p ρ)) 0 units
+      → HoldsColumn (tenths (tenthsFor n)) (defaults n p ρ) (keptDefaults Low n p ρ) units′
+  unfolding defaults
+  printed-holds units is = column-holds (column range) (entries-at n (printedRow n (keptDefaults Low n p ρ)) units is refl 0)
 
 -- ---- loss
 

@@ -7,7 +7,6 @@ use mathlib.Core.List.{List}
 use native.Mathlib.Omega.{arith}
 use lib.Dec.{lit≤}
 use lib.ListN.{length, getD, drop}
-use lib.Seq.{drop-append-seam}
 use Rattle.model.specs.Number.{triangle}
 use Rattle.model.specs.Number.Laws.{triangle-closed}
 use Rattle.model.specs.Fraction.{Fraction, Same, AtMost}
@@ -20,7 +19,7 @@ use Rattle.kept.specs.declared.Side.the-variants.{Low, High}
 use Rattle.kept.specs.Rounding.{value}
 use Rattle.kept.specs.Binary64.{leastShown}
 use Rattle.steps.specs.CorrelatedBinomial.Rows.{keptRow}
-use Rattle.steps.specs.Column.{unitsOfCertainty, exactUnits, tenths, printedRow}
+use Rattle.steps.specs.Column.{unitsOfCertainty, exactUnits, tenths}
 use Rattle.steps.specs.Enclosure.{Enclosed}
 use Rattle.steps.specs.Loss.{raisedToShown, Says}
 use Rattle.steps.specs.Loss.Laws.{raised-greater, least-shown-value}
@@ -28,10 +27,9 @@ use Rattle.steps.specs.CorrelatedBinomial.{keptDefaults}
 use Rattle.steps.specs.Inputs.{largestPool, distanceFor, tenthsFor}
 use Rattle.steps.specs.Promises.{HoldsColumn}
 use Rattle.steps.specs.Chances.{keptLoss}
-use Rattle.chances.specs.Tails.{unitsAfter}
 use Rattle.chances.specs.Loss.{lossOf}
-use Rattle.working.specs.Slices.{tabulate, overwritten, numberAt}
-use Rattle.working.specs.Slices.Laws.{length-tabulate}
+use Rattle.working.specs.Slices.{overwritten, numberAt}
+use Rattle.working.specs.Slices.Laws.{overwritten-later, entries-kept, entries-later}
 use Rattle.rows.specs.Store.{filledSide, stored}
 use Rattle.rows.specs.Store.Laws.{stored-length}
 use Rattle.grounds.specs.Grounds.Laws.{row-accepted}
@@ -45,7 +43,7 @@ use Rattle.store.specs.Stores.{Store, lengths, sideOf, place, storeAfter}
 use Rattle.store.specs.Calls.{LeavesStore, Fills, fillRefusal, HandsRow, rowRefusal}
 use Rattle.pool.specs.Answers.{replyOf, refusalOf}
 use Rattle.pool.specs.Calls.{columnRefusal, Prints, lossRefusal, Wide, PoolHoldsLoss, AnswersLoss, Replies}
-use Rattle.pool.specs.Demands.{BoundDemands, oneAndAHalf, Demand3Column, Slices, significandsOn, numberOn, from, TableDemands, edge, LossDemands, AnswerDemands, exactLoss, refusalIn}
+use Rattle.pool.specs.Demands.{BoundDemands, oneAndAHalf, Demand3Column, Slices, significandsOn, numberOn, from, TableDemands, StoreDemands, edge, LossDemands, AnswerDemands, exactLoss, refusalIn}
 use Rattle.pool.specs.Demands.{FillDemands, RowDemands, ColumnDemands, TrancheDemands}
 
 -- The four slices of a store.
@@ -65,21 +63,17 @@ bounds-meet enclosed = record {
   three = record { apart = enclosed .distance; of-zero = enclosed .of-zero };
 }
 
-later-kept : {A : Type 0} (new old : List A) {m : ℕ} → length new ≡ m → drop m (overwritten new old) ≡ drop m old
-unfolding overwritten
-later-kept new old is = rw (← is) (drop-append-seam new (drop (length new) old))
-
 -- What stands behind rows 0 to n in a slice that was filled.
 later-filled : {A : Type 0} (side : Side) (n p ρ : ℕ) (field : Kept → A) (old : List A)
     → drop ((n + 1) * (n + 2) / 2) (overwritten (stored side p ρ field n) old) ≡ drop ((n + 1) * (n + 2) / 2) old
 unfolding triangle
 later-filled side n p ρ field old =
     let places : length (stored side p ρ field n) ≡ (n + 1) * (n + 2) / 2 = omega (arith, stored-length side p ρ field n, triangle-closed (suc n)) in
-    later-kept (stored side p ρ field n) old places
+    overwritten-later (stored side p ρ field n) old places
 
 module _ {pool : Pool} {before after : Store} {refusal : ℕ} (leaves : LeavesStore pool before after refusal) where
   -- A refused call leaves the store as it was.
-  store-kept : (refusal ≡ 0 → ⊥) → after ≡ before
+  pub store-kept : (refusal ≡ 0 → ⊥) → after ≡ before
   unfolding storeAfter
   store-kept some = by-number refusal leaves some
     where
@@ -112,11 +106,14 @@ module _ {pool : Pool} {before after : Store} {refusal : ℕ} (leaves : LeavesSt
         let is : after ≡ storeAfter (pool .assets) (pool .probability) (pool .correlation) 0 before = rw none at (leaves .store-is) in
         rw is (simp later-filled refl)
 
+  pub store-meets : StoreDemands pool (slices before) (slices after) refusal
+  store-meets = record { table = table-meets; later = later-meets }
+
 pub fill-meets : {pool : Pool} {before after : Store} {refusal : ℕ} → Fills pool before after refusal → FillDemands pool (slices before) (slices after) refusal
 unfolding fillRefusal lengths largestPool
 fill-meets fills =
     let leaves = fills .leaves in
-    record { one = record { number = fills .refusal-is; untouched = λ some. ap slices (store-kept leaves some) }; table = table-meets leaves; later = later-meets leaves }
+    record { one = record { number = fills .refusal-is; untouched = λ some. ap slices (store-kept leaves some) }; store = store-meets leaves }
 
 -- ---- the row
 
@@ -150,21 +147,6 @@ rows-meet most holds = record {
   not-below = λ k l. less-at-most-trans (holds .near k l .not-below) (plus-mono at-most-refl most);
 }
 
-module _ (n : ℕ) (c : ℕ → Kept) (units : List ℕ) {units′ : List ℕ} where
-  -- A refused call leaves the rows as they were.
-  units-kept : {refusal : ℕ} → units′ ≡ unitsAfter n c refusal units → (refusal ≡ 0 → ⊥) → units′ ≡ units
-  unfolding unitsAfter
-  units-kept {refusal = zero} is some = absurd (some refl)
-  units-kept {refusal = suc r} is some = is
-
-  -- An accepted one leaves what stands behind them.
-  later-rows : {refusal : ℕ} → units′ ≡ unitsAfter n c refusal units → refusal ≡ 0 → drop (n + 1) units′ ≡ drop (n + 1) units
-  unfolding unitsAfter
-  later-rows is none =
-      let rows = tabulate (suc n) (printedRow n c) in
-      let written : units′ ≡ overwritten rows units = rw none at is in
-      rw written (later-kept rows units {m = n + 1} (rw length-tabulate (omega arith)))
-
 pub column-meets : {pool : Pool} {before after : Store} {units units′ : List ℕ} {refusal : ℕ} → Prints pool before after units units′ refusal
     → ColumnDemands pool (slices before) (slices after) units units′ refusal
 unfolding columnRefusal lengths largestPool tenths tenthsFor oneAndAHalf defaults
@@ -173,12 +155,11 @@ column-meets prints =
     record {
       one = record {
         number = prints .refusal-is;
-        untouched = λ some. rw (store-kept leaves some, units-kept _ _ _ (prints .units-are) some) refl;
+        untouched = λ some. rw (store-kept leaves some, entries-kept _ _ _ (prints .units-are) some) refl;
       };
-      table = table-meets leaves;
-      later = later-meets leaves;
+      store = store-meets leaves;
       column = λ none. rows-meet (record { cross = lit≤ tt }) (prints .holds-column none);
-      later-rows = later-rows _ _ _ (prints .units-are);
+      later-rows = entries-later _ _ _ (prints .units-are);
     }
 
 -- ---- the loss
@@ -240,8 +221,7 @@ tranche-meets {pool} {tranche} answer replies =
     let leaves = rw (← is) at (replies .leaves) in
     record {
       one = record { number = is; untouched = λ some. ap slices (store-kept leaves some) };
-      table = table-meets leaves;
-      later = later-meets leaves;
+      store = store-meets leaves;
       wide = λ none. replies .wide (sym is ∙ none);
       loss = λ none wide. answer-meets pool tranche wide answer (replies .holds-loss (sym is ∙ none) wide);
     }

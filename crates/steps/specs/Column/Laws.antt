@@ -3,7 +3,7 @@
 use Prim.Native.Nat.{ℕ, zero, suc, _+_, _*_, _-_, _≤_, _<_}
 use mathlib.Core.Path.{_≡_, refl, ap}
 use native.Mathlib.Decide.{decLe}
-use native.Mathlib.Nat.{lt-of-mul-lt-mul-right, mul-le-mul-right, mul-lt-mul-of-pos-right, mul-pos, mul-zero, sub-self}
+use native.Mathlib.Nat.{le-refl, le-trans, lt-of-mul-lt-mul-right, mul-le-mul-right, mul-lt-mul-of-pos-right, mul-pos, mul-zero, sub-self}
 use native.Mathlib.Omega.{arith}
 use Rattle.model.specs.Number.{sum}
 use Rattle.model.specs.Fraction.{Fraction, Same, AtMost, Less, certainty, integer, plus, times}
@@ -22,6 +22,11 @@ use Rattle.steps.specs.Budgets.{Bounded, tailBudget}
 use Rattle.steps.specs.Chances.{keptTotal, keptTail}
 use Rattle.steps.specs.Chances.Laws.{tail-bound}
 use Rattle.steps.specs.Column.{unitsOfCertainty, inUnits, printedTail, printedRow, exactUnits, PrintsTails, Within, PrintsColumn}
+
+-- What does not grow is at most its first.
+pub falls-at-most : {t : ℕ → ℕ} → ((k : ℕ) → t (suc k) ≤ t k) → (k : ℕ) → t k ≤ t 0
+falls-at-most {t} falls zero = le-refl (t 0)
+falls-at-most falls (suc k) = le-trans (falls k) (falls-at-most falls k)
 
 -- ---- the column
 
@@ -58,15 +63,18 @@ printed-column {r} c p =
     }
 
 -- A wider distance.
+pub within-weaken : {off off' x y : Fraction} → AtMost off off' → Within off x y → Within off' x y
+within-weaken l within = record {
+  not-above = less-at-most-trans (within .not-above) (plus-mono at-most-refl l);
+  not-below = less-at-most-trans (within .not-below) (plus-mono at-most-refl l);
+}
+
 pub column-weaken : {off off' : Fraction} {r : Chances} {t rows : ℕ → ℕ} → AtMost off off' → PrintsColumn off r t rows → PrintsColumn off' r t rows
 column-weaken l c = record {
   difference = c .difference;
   last = c .last;
   total = c .total;
-  near = λ k in-row. record {
-    not-above = less-at-most-trans (c .near k in-row .not-above) (plus-mono at-most-refl l);
-    not-below = less-at-most-trans (c .near k in-row .not-below) (plus-mono at-most-refl l);
-  };
+  near = λ k in-row. within-weaken l (c .near k in-row);
 }
 
 -- ---- units

@@ -3,17 +3,20 @@
 -- within the budgets of the model's row, so that the promises of a row in general hold of it.
 -- Assumes nothing.
 use Prim.Native.Nat.{ℕ, _-_, _*_, _≤_, _<_}
-use mathlib.Core.Path.{_≡_}
+use mathlib.Core.Path.{_≡_, refl}
+use mathlib.Core.List.{List}
 use native.Mathlib.Omega.{arith}
 use native.Mathlib.Nat.{le-trans}
 use lib.Dec.{lit<, lit≤}
+use lib.ListN.{getD}
+use lib.IntN.{ℤ, pos}
 use Rattle.model.specs.Number.{triangle}
 use Rattle.model.specs.Number.Laws.{triangle-mono}
 use Rattle.model.specs.Fraction.{whole, integer, plus, times, over, certainty}
-use Rattle.model.specs.Fraction.Laws.{whole-digits}
+use Rattle.model.specs.Fraction.Laws.{same-sym, same-trans, whole-digits}
 use Rattle.model.specs.Chances.{share, chance}
 use Rattle.model.specs.CorrelatedBinomial.{probability, defaults}
-use Rattle.model.specs.CorrelatedBinomial.Theorems.{probability-at-most-one, defaults-complete}
+use Rattle.model.specs.CorrelatedBinomial.Theorems.{probability-at-most-one, defaults-complete, defaults-tails-total}
 use Rattle.kept.specs.declared.Kept.{Kept}
 use Rattle.kept.specs.declared.Side.{Side}
 use Rattle.kept.specs.declared.Side.the-variants.{Low, High}
@@ -29,13 +32,14 @@ use Rattle.steps.specs.Enclosure.{Enclosed}
 use Rattle.steps.specs.Enclosure.Laws.{bound-enclosed}
 use Rattle.steps.specs.Column.{unitsOfCertainty, printedTail, printedRow, tenths, PrintsTails, PrintsColumn}
 use Rattle.steps.specs.Column.Laws.{printed-column, column-weaken}
+use Rattle.steps.specs.Shifts.{tailShift}
 use Rattle.steps.specs.Exponents.{Ranged}
 use Rattle.steps.specs.CorrelatedBinomial.Exponents.Laws.{rows-ranged}
 use Rattle.steps.specs.Loss.{LossAnswer, lossAnswer}
-use Rattle.steps.specs.Promises.{HoldsSteps, HoldsLoss}
-use Rattle.steps.specs.Promises.Laws.{steps-ranged, row-tails, row-enclosed, loss-holds}
-use Rattle.steps.specs.Inputs.{largestPool, distanceFor, tenthsFor, workingAssets, InRange}
-use Rattle.steps.specs.Inputs.Laws.{pool-works}
+use Rattle.steps.specs.Promises.{HoldsSteps, HoldsShifts, HoldsLoss}
+use Rattle.steps.specs.Promises.Laws.{steps-ranged, row-tails, row-enclosed, loss-holds, shifts-hold}
+use Rattle.steps.specs.Inputs.{largestPool, distanceFor, tenthsFor, shiftTenths, workingAssets, InRange}
+use Rattle.steps.specs.Inputs.Laws.{range-uncorrelated, pool-works}
 use Rattle.steps.specs.CorrelatedBinomial.{keptDefaults}
 use Rattle.steps.specs.CorrelatedBinomial.Exponents.{PoolNumber, of-rows, of-steps}
 
@@ -113,3 +117,14 @@ module _ {n p ρ : ℕ} where
         → unfold defaults in HoldsLoss (distanceFor n) (defaults n p ρ) (λ side. keptDefaults side n p ρ) R A B wide loss
     unfolding defaults keptDefaults poolBudget defaultsBudget
     answer R A B = loss-holds within pool-budget
+
+-- The shifts of the printed tails against those of the same pool without correlation. The exact tails at 1 to n add to n × p at either correlation.
+pub shifts : {n p ρ : ℕ} → InRange largestPool n p ρ → 0 < n → {shifts : List ℤ}
+    → ((k : ℕ) → k ≤ n → getD shifts k (pos 0) ≡ tailShift n (keptDefaults Low n p ρ) (keptDefaults Low n p 0) k)
+    → HoldsShifts (tenths shiftTenths) (defaults n p ρ) (defaults n p 0) (keptDefaults Low n p ρ) (keptDefaults Low n p 0) shifts
+unfolding defaults plus integer tenths shiftTenths
+shifts {n} {p} {ρ} range some stand =
+    let base = range-uncorrelated range in
+    let total = defaults-tails-total p ρ (range .probability) (range .correlation) n in
+    let base-total = defaults-tails-total p 0 (base .probability) (base .correlation) n in
+    shifts-hold (printed range) (printed base) refl (same-trans total (same-sym base-total)) some (record { cross = lit≤ tt }) stand

@@ -1,7 +1,8 @@
--- Fewer assets, and the limits against each other.
+-- Fewer assets, no correlation, and the limits against each other.
 -- Assumes nothing.
 use Prim.Native.Nat.{ℕ, _≤_}
 use native.Mathlib.Nat.{le-refl, le-trans}
+use native.Mathlib.Omega.{arith}
 use lib.Dec.{lit≤}
 use Rattle.steps.specs.Inputs.{largestPool, workingAssets, InRange}
 
@@ -12,6 +13,10 @@ range-below l m range = record {
   probability = range .probability;
   correlation = range .correlation;
 }
+
+-- The same pool without correlation.
+pub range-uncorrelated : {most n p ρ : ℕ} → InRange most n p ρ → InRange most n p 0
+range-uncorrelated range = record { assets = range .assets; probability = range .probability; correlation = omega arith }
 
 -- A working row has places for the largest pool.
 pub pool-works : largestPool ≤ workingAssets

@@ -6,9 +6,11 @@ use mathlib.Core.List.{List}
 use native.Mathlib.Omega.{arith}
 use native.Mathlib.Nat.{le-refl, mul-le-mul-right}
 use lib.ListN.{getD}
+use lib.IntN.{ℤ, pos, +ℤ-invr}
 use Rattle.model.specs.Number.Laws.{sum-cong}
-use Rattle.model.specs.Fraction.{Fraction, integer, whole}
-use Rattle.model.specs.Chances.{Chances}
+use Rattle.model.specs.Fraction.{Fraction, Same, AtMost, integer, plus, whole}
+use Rattle.model.specs.Fraction.Laws.{at-most-refl, less-at-most-trans, times-mono}
+use Rattle.model.specs.Chances.{Chances, tailsTotal}
 use Rattle.kept.specs.declared.Kept.{Kept}
 use Rattle.kept.specs.declared.Side.{Side}
 use Rattle.kept.specs.declared.Side.the-variants.{Low, High}
@@ -18,13 +20,15 @@ use Rattle.steps.specs.Budgets.{chanceBudget, tailBudget, lossBudget, Bo
 use Rattle.steps.specs.Chances.{keptChances, keptLoss}
 use Rattle.steps.specs.Chances.Laws.{chance-bound, chance-enclosed, tail-enclosed, loss-enclosed}
 use Rattle.steps.specs.Column.{unitsOfCertainty, printedTail, printedRow, PrintsTails, PrintsColumn}
-use Rattle.steps.specs.Column.Laws.{printed-tails}
+use Rattle.steps.specs.Column.Laws.{within-weaken, printed-tails}
+use Rattle.steps.specs.Shifts.{tailShift}
+use Rattle.steps.specs.Shifts.Laws.{tails-near, tails-between, tails-total-near}
 use Rattle.steps.specs.Exponents.{Ranged}
 use Rattle.steps.specs.Loss.{LossAnswer, lossAnswer}
 use Rattle.steps.specs.Loss.Laws.{tranche-says}
 use Rattle.steps.specs.Numbers.{StepNumber, of-chances, of-tails, of-losses}
 use Rattle.steps.specs.Numbers.Laws.{chances-ranged, tails-ranged, losses-ranged}
-use Rattle.steps.specs.Promises.{RowEnclosed, HoldsColumn, HoldsLoss}
+use Rattle.steps.specs.Promises.{RowEnclosed, HoldsColumn, HoldsShifts, HoldsLoss}
 
 module _ {b m : ℕ} {r : Chances} {v : ℕ → Fraction} {entry : Side → ℕ → Kept} (within : WithinBudget b m r v entry) where
   abbrev kept : Side → ℕ → Kept
@@ -81,4 +85,18 @@ column-holds {r} prints rows = record {
   difference = λ k l. rw (rows k l) (prints .difference k);
   last = rows (r .assets) (le-refl (r .assets)) ∙ prints .last;
   near = λ k l. rw (rows k l) (prints .near k l);
+}
+
+-- A shift list that stands in a slice, from two rows whose exact tails add to the same.
+pub shifts-hold : {above below off : Fraction} {r s : Chances} {low base : ℕ → Kept} {shifts : List ℤ}
+    → PrintsTails above below r (printedTail (r .assets) low) → PrintsTails above below s (printedTail (r .assets) base)
+    → s .assets ≡ r .assets → Same (tailsTotal r) (tailsTotal s) → 0 < r .assets → AtMost (plus above below) off
+    → ((k : ℕ) → k ≤ r .assets → getD shifts k (pos 0) ≡ tailShift (r .assets) low base k) → HoldsShifts off r s low base shifts
+unfolding tailShift
+shifts-hold {r} tails others as-many same some most entries = record {
+  entry = entries;
+  at-zero = entries 0 (omega arith) ∙ rw (tails .at-zero, others .at-zero) (+ℤ-invr (pos unitsOfCertainty));
+  between = λ k l. rw (entries k l) (tails-between tails others k);
+  near = λ k l. within-weaken most (tails-near tails others k);
+  total = less-at-most-trans (tails-total-near tails others as-many same some _ (λ i l. entries (suc i) l)) (times-mono at-most-refl most);
 }

@@ -7,13 +7,13 @@ use native.Mathlib.Decide.{decLe}
 use native.Mathlib.Nat.{zero-add, add-zero, add-suc}
 use native.Mathlib.Omega.{arith}
 use native.Mathlib.Numerals.{add-one}
-use lib.ListN.{length, getD, set, length-append, length-drop, length-map, length-set, List·getD-append, List·getD-map}
+use lib.ListN.{length, getD, set, drop, length-append, length-drop, length-map, length-set, List·getD-append, List·getD-map}
 use lib.IntN.{pos}
-use lib.Seq.{drop-cons, set-append-seam, set-getD, getD-at, getD-append-add, getD-drop, ext-getD}
+use lib.Seq.{drop-cons, drop-append-seam, set-append-seam, set-getD, getD-at, getD-append-add, getD-drop, ext-getD}
 use Rattle.kept.specs.declared.Kept.{Kept}
 use Rattle.kept.specs.Rounding.{nought}
 use Rattle.working.specs.Working.Laws.{Changed}
-use Rattle.working.specs.Slices.{tabulate, overwritten, SideStore, sideStore, numberAt, withNumber, HasPlaces, Holding, Standing, Stored}
+use Rattle.working.specs.Slices.{tabulate, overwritten, entriesAfter, SideStore, sideStore, numberAt, withNumber, HasPlaces, Holding, Standing, Stored}
 
 -- ---- lists
 
@@ -31,6 +31,11 @@ module _ {A : Type 0} where
     | no h ↦ List·getD-append (tabulate m f) (f m ∷ []) d j (omega (arith, length-tabulate m f)) ∙ getD-tabulate m f j d (omega arith)
   ]
 
+  pub tabulate-same : {f g : ℕ → A} (m : ℕ) → ((i : ℕ) → i < m → f i ≡ g i) → tabulate m f ≡ tabulate m g
+  unfolding tabulate
+  tabulate-same zero same = refl
+  tabulate-same (suc m) same = rw (tabulate-same m (λ i l. same i (omega arith)), same m (omega arith))
+
   pub overwritten-at : (new old : List A) (i : ℕ) (d : A) → i < length new → getD (overwritten new old) i d ≡ getD new i d
   unfolding overwritten
   overwritten-at new old i d l = List·getD-append new _ d i l
@@ -38,6 +43,10 @@ module _ {A : Type 0} where
   pub overwritten-length : (new old : List A) → length new ≤ length old → length (overwritten new old) ≡ length old
   unfolding overwritten
   overwritten-length new old l = rw (length-append, length-drop) (omega arith)
+
+  pub overwritten-later : (new old : List A) {m : ℕ} → length new ≡ m → drop m (overwritten new old) ≡ drop m old
+  unfolding overwritten
+  overwritten-later new old is = rw (← is) (drop-append-seam new (drop (length new) old))
 
   pub overwritten-none : (old : List A) → old ≡ overwritten [] old
   unfolding overwritten
@@ -67,6 +76,37 @@ module _ {A : Type 0} where
             let below : i < m = omega arith in
             done .new .entry d i below ∙ same i below ∙ sym (overwritten-at written old i d (omega arith) ∙ getD-tabulate m g i d below)
       ])
+
+-- ---- entries 0 to n of a call
+
+-- A slice whose first n + 1 places are changed.
+pub changed-entries : {A : Type 0} (d : A) {n k : ℕ} (old : List A) {new : List A} {f : ℕ → A} → Changed (length old) (length old) k old new f → k ≡ suc n
+    → n < length old → new ≡ entriesAfter n f 0 old
+unfolding entriesAfter
+changed-entries d old done all l = changed-overwritten d old (rw all at done) l (λ i h. refl)
+
+module _ {A : Type 0} (n : ℕ) (f : ℕ → A) (old : List A) where
+  pub entries-untouched : (refusal : ℕ) → (refusal ≡ 0 → ⊥) → old ≡ entriesAfter n f refusal old
+  unfolding entriesAfter
+  entries-untouched zero some = absurd (some refl)
+  entries-untouched (suc r) some = refl
+
+  module _ {refusal : ℕ} {new : List A} (is : new ≡ entriesAfter n f refusal old) where
+    pub entries-kept : (refusal ≡ 0 → ⊥) → new ≡ old
+    entries-kept some = is ∙ sym (entries-untouched refusal some)
+
+    module _ (none : refusal ≡ 0) where
+      entries-written : new ≡ overwritten (tabulate (suc n) f) old
+      unfolding entriesAfter
+      entries-written = rw none at is
+
+      pub entries-at : (d : A) (k : ℕ) → k ≤ n → getD new k d ≡ f k
+      entries-at d k l =
+          rw (entries-written, overwritten-at (tabulate (suc n) f) old k d (rw (length-tabulate (suc n) f) (omega arith)))
+          (getD-tabulate (suc n) f k d (omega arith))
+
+      pub entries-later : drop (n + 1) new ≡ drop (n + 1) old
+      entries-later = rw entries-written (overwritten-later (tabulate (suc n) f) old {m = n + 1} (rw length-tabulate (omega arith)))
 
 -- ---- numbers from the start of one side
 

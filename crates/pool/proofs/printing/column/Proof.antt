@@ -5,13 +5,14 @@ use borrow.Author.Needs.{needs}
 use native.Mathlib.Omega.{arith}
 use lib.ListN.{length}
 use Rattle.steps.specs.Inputs.{largestPool}
-use Rattle.grounds.specs.Grounds.{fourLengths, ColumnAccepted}
-use Rattle.grounds.specs.Grounds.Laws.{column-accepted}
+use Rattle.grounds.specs.Grounds.{columnGrounds, fourLengths, EntriesAccepted}
+use Rattle.grounds.specs.Grounds.Laws.{entries-accepted}
 use Rattle.steps.specs.CorrelatedBinomial.{keptDefaults}
+use Rattle.working.specs.Slices.Laws.{entries-untouched}
 use Rattle.store.specs.Stores.{store, lengths}
 use Rattle.store.specs.Calls.Laws.{store-untouched, store-filled}
 use Rattle.pool.specs.Calls.{columnRefusal}
-use Rattle.pool.specs.Calls.Laws.{column-is-ready, printed-holds, units-untouched}
+use Rattle.pool.specs.Calls.Laws.{column-is-ready, printed-holds}
 use Rattle.pool.proofs.printing.column.Statement.{statement}
 use Rattle.pool.proofs.printing.column.Tie as tie
 
@@ -20,17 +21,17 @@ goes-on : (c : tie.Else1) → c .before .column-refusal .result ≡ 0
 goes-on c = omega arith
 
 accepted : (c : tie.Else1) → let args = c .before .before .before .before .before .args in
-    ColumnAccepted largestPool (args .pool .assets) (args .pool .probability) (args .pool .correlation)
+    EntriesAccepted largestPool (args .pool .assets) (args .pool .probability) (args .pool .correlation)
     (lengths (store (args .low-significands .now) (args .high-significands .now) (args .low-exponents .now) (args .high-exponents .now))) (length (args .units .now))
-unfolding lengths store fourLengths largestPool
-accepted c = column-accepted _ _ _ _ _ _ (c .before .column-refusal .ensures) (goes-on c)
+unfolding lengths store columnGrounds fourLengths largestPool
+accepted c = entries-accepted 7 _ _ _ _ _ _ (c .before .column-refusal .ensures) (goes-on c)
 
 refused : tie.Need-returns
 unfolding columnRefusal lengths store fourLengths largestPool
 refused c = record {
   refusal-is = c .before .column-refusal .ensures;
   leaves = store-untouched (c .before .column-refusal .result) (λ none. omega arith) refl;
-  units-are = units-untouched _ _ (c .before .column-refusal .result) (λ none. omega arith);
+  units-are = entries-untouched _ _ _ (c .before .column-refusal .result) (λ none. omega arith);
   holds-column = λ none. absurd (omega arith);
 }
 
@@ -38,7 +39,7 @@ print-column-requires : tie.Need-print-column-requires
 print-column-requires c κs =
     let filled = c .before .before .before .before .before .before .before .before in
     let given = accepted (filled .before .before .before .before .before) in
-    (column-is-ready (given .fill .pool .range) (filled .fill-both .ensures .low-row), given .column)
+    (column-is-ready (given .fill .pool .range) (filled .fill-both .ensures .low-row), given .entries)
 
 printed : tie.Need-returns-2
 unfolding columnRefusal lengths store fourLengths largestPool keptDefaults

@@ -1,0 +1,51 @@
+-- The contract of the call for a shift list implies what is demanded of it.
+-- Assumes nothing.
+use Prim.Native.Nat.{ℕ}
+use mathlib.Core.Path.{refl}
+use mathlib.Core.List.{List}
+use lib.Dec.{lit≤}
+use lib.IntN.{ℤ}
+use Rattle.model.specs.Fraction.{Fraction, AtMost}
+use Rattle.model.specs.Fraction.Laws.{at-most-refl, less-at-most-trans, times-mono}
+use Rattle.model.specs.Chances.{Chances, tail}
+use Rattle.model.specs.CorrelatedBinomial.{defaults}
+use Rattle.kept.specs.declared.Kept.{Kept}
+use Rattle.steps.specs.Column.{unitsOfCertainty, exactUnits, tenths, printedTail}
+use Rattle.steps.specs.Column.Laws.{within-weaken}
+use Rattle.steps.specs.Shifts.{tailShift}
+use Rattle.steps.specs.Inputs.{largestPool, shiftTenths}
+use Rattle.steps.specs.Promises.{HoldsShifts}
+use Rattle.working.specs.Slices.Laws.{entries-kept, entries-later}
+use Rattle.store.specs.declared.Pool.{Pool}
+use Rattle.store.specs.Stores.{Store, lengths}
+use Rattle.pool.specs.Demands.{oneAndThreeTenths, Demand3Shifts, ShiftDemands}
+use Rattle.pool.specs.Demands.Theorems.{slices, store-kept, store-meets}
+use Rattle.shift.specs.Calls.{shiftRefusal, ListsShifts}
+
+-- A shift list of any two rows whose offset is 1.3 units at most.
+list-meets : {off : Fraction} {r s : Chances} {low base : ℕ → Kept} {shifts : List ℤ} → AtMost off oneAndThreeTenths → HoldsShifts off r s low base shifts
+    → Demand3Shifts (r .assets) (printedTail (r .assets) low) (printedTail (r .assets) base) (tail r) (tail s) shifts
+unfolding unitsOfCertainty exactUnits tailShift
+list-meets most holds = record {
+  entry = holds .entry;
+  at-zero = holds .at-zero;
+  between = holds .between;
+  not-above = λ k l. within-weaken most (holds .near k l) .not-above;
+  not-below = λ k l. within-weaken most (holds .near k l) .not-below;
+  total = less-at-most-trans (holds .total) (times-mono at-most-refl most);
+}
+
+pub shift-meets : {pool : Pool} {before after : Store} {shifts shifts′ : List ℤ} {refusal : ℕ} → ListsShifts pool before after shifts shifts′ refusal
+    → ShiftDemands pool (slices before) (slices after) shifts shifts′ refusal
+unfolding shiftRefusal lengths largestPool tenths shiftTenths oneAndThreeTenths defaults
+shift-meets lists =
+    let leaves = lists .leaves in
+    record {
+      one = record {
+        number = lists .refusal-is;
+        untouched = λ some. rw (store-kept leaves some, entries-kept _ _ _ (lists .shifts-are) some) refl;
+      };
+      store = store-meets leaves;
+      list = λ none. list-meets (record { cross = lit≤ tt }) (lists .holds-shifts none);
+      later-entries = entries-later _ _ _ (lists .shifts-are);
+    }
