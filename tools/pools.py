@@ -63,6 +63,11 @@ def printed_rows(chances):
     return [printed[k] - printed[k + 1] for k in range(len(chances))]
 
 
+def shifts(chances, base):
+    """The printed tails at 0 to n from chances of the low side, less those from others."""
+    return [x - y for x, y in zip(printed_tails(chances), printed_tails(base))][:len(chances)]
+
+
 def bits(x):
     """The f64 of a kept number from 2^-800 to below 2^224, by its bits."""
     significand, exponent = x
@@ -110,8 +115,17 @@ def row_refusal(n, k, length):
     return first(assets_ground(n) + store_ground(n, [length]) + [(9, k > n)])
 
 
+def entries_refusal(number, n, p, rho, lengths, entries):
+    """Of a call that writes entries 0 to n to a slice beside the store."""
+    return first(pool_grounds(n, p, rho) + store_ground(n, lengths) + [(number, entries < n + 1)])
+
+
 def column_refusal(n, p, rho, lengths, units):
-    return first(pool_grounds(n, p, rho) + store_ground(n, lengths) + [(8, units < n + 1)])
+    return entries_refusal(8, n, p, rho, lengths, units)
+
+
+def shift_refusal(n, p, rho, lengths, entries):
+    return entries_refusal(10, n, p, rho, lengths, entries)
 
 
 def loss_refusal(n, p, rho, recovery, lower, upper, lengths):

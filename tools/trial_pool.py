@@ -1,14 +1,17 @@
 """The lines that crates/trial_pool prints of a call, by tools/pools.py."""
 from functools import lru_cache
 
-from pools import column_refusal, fill_refusal, loss, loss_answer, loss_refusal, printed_rows, row_refusal, steps
-from trial_support import checksum, line
+from pools import WHOLE, column_refusal, fill_refusal, loss, loss_answer, loss_refusal, printed_rows, row_refusal
+from pools import shift_refusal, shifts, steps
+from trial_support import checksum, following, line
 
 PLACES = 2150
 ROWS = 70
 MARK = 1000000007
-EXPONENT_MARK = 1000007
+INTEGER_MARK = 1000007
 AMPLE = [PLACES] * 4
+STORES = [(1, 3), (3, 10), (64, 2145)]
+OTHERS = [(10, 500, 250), (2, 500, 250), (64, 10000, 10000)]
 
 
 @lru_cache(maxsize=None)
@@ -19,7 +22,7 @@ def made(n, p, rho):
 
 def array_word(numbers, mark, length):
     """The checksum of an array that starts with these numbers, before the marks."""
-    return checksum(numbers + [mark] * (length - len(numbers)), signed=mark == EXPONENT_MARK)
+    return checksum(numbers + [mark] * (length - len(numbers)), signed=mark == INTEGER_MARK)
 
 
 def places(filled, side, part):
@@ -30,7 +33,7 @@ def places(filled, side, part):
 def store_words(filled, before=()):
     """The checksums of the four arrays: what was filled stands before what they held before, and that before the marks."""
     words = ["slices"]
-    for part, mark in enumerate((MARK, EXPONENT_MARK)):
+    for part, mark in enumerate((MARK, INTEGER_MARK)):
         for side in (0, 1):
             new, old = places(filled, side, part), places(before, side, part)
             words.append(array_word(new + old[len(new):], mark, PLACES))
@@ -64,13 +67,56 @@ def column_words(n, p, rho, lengths, units, before=()):
     return ["refusal", refusal, *rows, "rows", array_word(rows, MARK, ROWS), *store_words(filled, before)]
 
 
-def column(n, p, rho, lengths=AMPLE, units=ROWS):
-    line("column", n, p, rho, "lengths", *lengths, units, *column_words(n, p, rho, lengths, units))
+def shift_words(n, p, rho, lengths, entries, before=()):
+    refusal = shift_refusal(n, p, rho, lengths, entries)
+    filled = [] if refusal else made(n, p, rho)
+    listed = [] if refusal else shifts(filled[0][1], made(n, p, 0)[0][1])
+    return ["refusal", refusal, *listed, "list", array_word(listed, INTEGER_MARK, ROWS), *store_words(filled, before)]
 
 
-def column_over(other, n, p, rho):
-    """The column on slices that hold another pool's store."""
-    line("over", *other, "column", n, p, rho, *column_words(n, p, rho, AMPLE, ROWS, made(*other)))
+LISTS = {"column": column_words, "shifts": shift_words}
+
+
+def listed(call, n, p, rho, lengths=AMPLE, entries=ROWS):
+    """A call that leaves entries 0 to n in a slice."""
+    line(call, n, p, rho, "lengths", *lengths, entries, *LISTS[call](n, p, rho, lengths, entries))
+
+
+def listed_over(call, other, n, p, rho):
+    """The same on slices that hold another pool's store."""
+    line("over", *other, call, n, p, rho, *LISTS[call](n, p, rho, AMPLE, ROWS, made(*other)))
+
+
+def lengths_of(exact):
+    """A store that fits, and each slice one place short in turn."""
+    return [[exact] * 4] + [[exact - (at == short) for at in range(4)] for short in range(4)]
+
+
+def longer(exact):
+    return [exact + more for more in (1, 2, 3, 5)]
+
+
+def lists(call):
+    """The cases of such a call."""
+    for pool in [
+        (3, 1000, 3000), (0, 1000, 3000), (64, 1000, 3000), (65, 1000, 3000), (3, 10001, 3000), (3, 1000, 10001),
+        (65, 10001, 10001), (3, 10001, 10001),
+    ]:
+        listed(call, *pool)
+    for n in (1, 20):
+        for p, rho in [(0, 0), (0, 10000), (5000, 0), (5000, 10000), (10000, 0), (10000, 10000)]:
+            listed(call, n, p, rho)
+    for n, exact in STORES:
+        for lengths in lengths_of(exact):
+            listed(call, n, 1000, 3000, lengths, n + 1)
+        listed(call, n, 1000, 3000, [exact] * 4, n)
+        listed(call, n, 1000, 3000, lengths_of(exact)[4], n)
+        listed(call, n, 1000, 3000, longer(exact), n + 6)
+    for pool in [(65, 1000, 3000), (3, 10001, 3000), (3, 1000, 10001)]:
+        listed(call, *pool, [0] * 4, 0)
+    for other in OTHERS:
+        listed_over(call, other, 3, 1000, 3000)
+    listed_over(call, OTHERS[0], 65, 1000, 3000)
 
 
 def answer_words(n, p, rho, recovery, lower, upper, lengths, before=()):
@@ -91,3 +137,28 @@ def loss_over(other, n, p, rho, recovery, lower, upper):
     """The loss on slices that hold another pool's store."""
     words = answer_words(n, p, rho, recovery, lower, upper, AMPLE, made(*other))
     line("over", *other, "loss", n, p, rho, recovery, "tranche", lower, upper, *words)
+
+
+def basis_points(word):
+    kind, rest = word % 16, word >> 8
+    if kind < 7:
+        return (0, 0, 1, 1, WHOLE, WHOLE, WHOLE + 1)[kind]
+    if kind == 7:
+        return WHOLE + 1 + rest % 4000000000
+    return rest % 400 if kind < 12 else rest % 10001
+
+
+def assets(word):
+    kind, rest = word % 16, word >> 8
+    if kind < 2:
+        return (0, 65)[kind]
+    if kind < 6:
+        return 60 + rest % 5
+    return 1 + rest % (64 if kind < 8 else 20)
+
+
+def random_pool(word):
+    n, second = assets(word), following(word)
+    third = following(second)
+    p, rho = (1, 0) if n > 55 and second % 2 == 0 else (basis_points(second), basis_points(third))
+    return n, p, rho, basis_points(following(third))

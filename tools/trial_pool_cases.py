@@ -2,20 +2,9 @@
 
     python3 tools/trial_pool_cases.py > crates/trial_pool_cases/stdout
 """
-from trial_pool import column, column_over, fill, filled_row, loss_over, row, tranche_loss
+from trial_pool import OTHERS, STORES, fill, filled_row, lengths_of, listed, lists, longer, loss_over, row, tranche_loss
 
 LARGEST = 2**32 - 1
-STORES = [(1, 3), (3, 10), (64, 2145)]
-OTHERS = [(10, 500, 250), (2, 500, 250), (64, 10000, 10000)]
-
-
-def lengths_of(exact):
-    """A store that fits, and each slice one place short in turn."""
-    return [[exact] * 4] + [[exact - (at == short) for at in range(4)] for short in range(4)]
-
-
-def longer(exact):
-    return [exact + more for more in (1, 2, 3, 5)]
 
 
 def fills():
@@ -49,28 +38,6 @@ def rows():
     filled_row(64, 1000, 3000, 64)
 
 
-def columns():
-    for pool in [
-        (3, 1000, 3000), (0, 1000, 3000), (64, 1000, 3000), (65, 1000, 3000), (3, 10001, 3000), (3, 1000, 10001),
-        (65, 10001, 10001), (3, 10001, 10001),
-    ]:
-        column(*pool)
-    for n in (1, 20):
-        for p, rho in [(0, 0), (0, 10000), (5000, 0), (5000, 10000), (10000, 0), (10000, 10000)]:
-            column(n, p, rho)
-    for n, exact in STORES:
-        for lengths in lengths_of(exact):
-            column(n, 1000, 3000, lengths, n + 1)
-        column(n, 1000, 3000, [exact] * 4, n)
-        column(n, 1000, 3000, lengths_of(exact)[4], n)
-        column(n, 1000, 3000, longer(exact), n + 6)
-    for pool in [(65, 1000, 3000), (3, 10001, 3000), (3, 1000, 10001)]:
-        column(*pool, [0] * 4, 0)
-    for other in OTHERS:
-        column_over(other, 3, 1000, 3000)
-    column_over(OTHERS[0], 65, 1000, 3000)
-
-
 def losses():
     for tranche in [
         (4000, 1000, 3000), (4000, 0, 6000), (4000, 6000, 10000), (0, 0, 10000), (10000, 0, 10000), (10001, 0, 10000),
@@ -102,10 +69,10 @@ def digits():
         (5, 1900, 1500), (9, 5800, 4200), (10, 9500, 500), (12, 1150, 900), (16, 6500, 3600), (20, 7200, 5300),
         (28, 6600, 200), (35, 5900, 2200), (48, 6000, 3000), (53, 400, 1000), (62, 3000, 6000), (64, 6500, 2200),
     ]:
-        column(*pool)
+        listed("column", *pool)
     # The exact count of orders times the entry, rounded once, would give another unit, or change both bounds.
     for pool in [(42, 1100, 1100), (47, 1900, 0), (54, 5600, 2000), (64, 5100, 200)]:
-        column(*pool)
+        listed("column", *pool)
     for case in [
         (37, 4000, 1000, 0, 3000, 6000), (39, 4500, 0, 6000, 300, 700), (41, 7000, 5000, 6000, 1000, 3000),
         (43, 2500, 8000, 2500, 1000, 2000), (46, 5500, 1000, 3500, 1500, 1600), (48, 3000, 2000, 5000, 2000, 4000),
@@ -132,7 +99,7 @@ def edges():
 
 fills()
 rows()
-columns()
+lists("column")
 losses()
 digits()
 edges()

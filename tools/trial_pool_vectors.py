@@ -3,33 +3,8 @@
     python3 tools/trial_pool_vectors.py > crates/trial_pool_vectors/stdout
 """
 from pools import WHOLE
-from trial_pool import column, fill, tranche_loss
+from trial_pool import basis_points, fill, listed, random_pool, tranche_loss
 from trial_support import SEED, following
-
-
-def basis_points(word):
-    kind, rest = word % 16, word >> 8
-    if kind < 7:
-        return (0, 0, 1, 1, WHOLE, WHOLE, WHOLE + 1)[kind]
-    if kind == 7:
-        return WHOLE + 1 + rest % 4000000000
-    return rest % 400 if kind < 12 else rest % 10001
-
-
-def assets(word):
-    kind, rest = word % 16, word >> 8
-    if kind < 2:
-        return (0, 65)[kind]
-    if kind < 6:
-        return 60 + rest % 5
-    return 1 + rest % (64 if kind < 8 else 20)
-
-
-def random_pool(word):
-    n, second = assets(word), following(word)
-    third = following(second)
-    p, rho = (1, 0) if n > 55 and second % 2 == 0 else (basis_points(second), basis_points(third))
-    return n, p, rho, basis_points(following(third))
 
 
 def random_tranche(word, recovery):
@@ -46,7 +21,7 @@ def cases(count):
         other = following(following(following(following(word))))
         n, p, rho, recovery = random_pool(word)
         fill(n, p, rho)
-        column(n, p, rho)
+        listed("column", n, p, rho)
         tranche_loss(n, p, rho, recovery, *random_tranche(other, recovery))
         word = following(following(following(other)))
 

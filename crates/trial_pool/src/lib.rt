@@ -1,13 +1,25 @@
 // Runs a call on lent slices and prints a line: what it was given, the refusal or the answer, and a checksum of each array. The
 // slices are the first places of the arrays, so that a write behind them is seen.
+mod edges;
+mod random;
+
+pub use edges::exact_lengths;
+pub use edges::later_ends;
+pub use edges::lists;
+pub use edges::longer_lengths;
+pub use edges::no_places;
+pub use edges::over_others;
 use pool::Answer;
 use pool::Loss;
 use pool::Pool;
 use pool::Tranche;
+pub use random::basis_points;
+pub use random::random_pool;
 use trial_support::write;
 use trial_support::write_bits;
 use trial_support::write_checksum;
 use trial_support::write_field;
+use trial_support::write_integer;
 use trial_support::write_number;
 
 const PLACES: usize = 2_150;
@@ -17,16 +29,18 @@ pub const ROWS: usize = 70;
 // What every place holds at first.
 const MARK: u32 = 1_000_000_007;
 
-const EXPONENT_MARK: i32 = 1_000_007;
+const INTEGER_MARK: i32 = 1_000_007;
 
 // How many places are lent: of the low and the high significands, then of the low and the high exponents.
 pub struct Lengths(pub usize, pub usize, pub usize, pub usize);
 
-// A call on a store, with what it takes beside it: the number of a row, how many rows are lent, a tranche.
+// A call on a store, with what it takes beside it: the number of a row, how many places of a column or of a shift list are lent, a
+// tranche.
 pub enum Call {
     Fill,
     Row(u32),
     Column(usize),
+    Shifts(usize),
     Loss(Tranche),
 }
 
@@ -71,6 +85,10 @@ fn write_call(call: Call, pool: Pool) {
             write(b"column");
             write_pool(pool);
         }
+        Call::Shifts(_) => {
+            write(b"shifts");
+            write_pool(pool);
+        }
         Call::Loss(tranche) => {
             write(b"loss");
             write_pool(pool);
@@ -86,8 +104,10 @@ fn write_lengths(call: Call, lengths: Lengths) {
     write_length(lengths.1);
     write_length(lengths.2);
     write_length(lengths.3);
-    if let Call::Column(rows) = call {
-        write_length(rows);
+    match call {
+        Call::Column(places) => write_length(places),
+        Call::Shifts(places) => write_length(places),
+        _ => write(b""),
     }
 }
 
@@ -153,16 +173,27 @@ fn first_integers(places: &mut [i32], count: usize) -> &mut [i32] {
     }
 }
 
-fn write_numbers(numbers: &[u32]) {
-    for i in 0..numbers.len() {
-        write_field(numbers[i]);
+fn write_signed(n: i32) {
+    write(b" ");
+    write_integer(n);
+}
+
+// The naturals, then the integers.
+fn write_numbers(naturals: &[u32], integers: &[i32]) {
+    let count = naturals.len();
+    for i in 0..count + integers.len() {
+        if i < count {
+            write_field(naturals[i]);
+        } else {
+            write_signed(integers[i - count]);
+        }
     }
 }
 
 fn write_row(part: &[u32]) {
     write(b" part");
     write_length(part.len());
-    write_numbers(part);
+    write_numbers(part, &[]);
 }
 
 // The refusal, rows 0 to n where it is 0, and the checksum of what the rows were written to.
@@ -170,10 +201,21 @@ fn write_column(pool: Pool, refusal: u32, units: &[u32]) {
     write_refusal(refusal);
     let rows = pool.assets as usize + 1;
     if refusal == 0 && rows <= units.len() {
-        write_numbers(&units[0..rows]);
+        write_numbers(&units[0..rows], &[]);
     }
     write(b" rows");
     write_checksum(units, &[]);
+}
+
+// The refusal, entries 0 to n where it is 0, and the checksum of what the list was written to.
+fn write_shifts(pool: Pool, refusal: u32, shifts: &[i32]) {
+    write_refusal(refusal);
+    let entries = pool.assets as usize + 1;
+    if refusal == 0 && entries <= shifts.len() {
+        write_numbers(&[], &shifts[0..entries]);
+    }
+    write(b" list");
+    write_checksum(&[], shifts);
 }
 
 fn write_loss(loss: Loss) {
@@ -219,6 +261,26 @@ fn answer_column(
     write_column(pool, refusal, &units);
 }
 
+fn answer_shifts(
+    pool: Pool,
+    length: usize,
+    low_significands: &mut [u32],
+    high_significands: &mut [u32],
+    low_exponents: &mut [i32],
+    high_exponents: &mut [i32],
+) {
+    let mut shifts = [INTEGER_MARK; ROWS];
+    let refusal = shift::shift_list(
+        pool,
+        low_significands,
+        high_significands,
+        low_exponents,
+        high_exponents,
+        first_integers(&mut shifts, length),
+    );
+    write_shifts(pool, refusal, &shifts);
+}
+
 // Makes a call and writes what it answers.
 fn answer(
     call: Call,
@@ -245,6 +307,14 @@ fn answer(
             low_exponents,
             high_exponents,
         ),
+        Call::Shifts(length) => answer_shifts(
+            pool,
+            length,
+            low_significands,
+            high_significands,
+            low_exponents,
+            high_exponents,
+        ),
         Call::Loss(tranche) => write_answer(pool::tranche_loss(
             pool,
             tranche,
@@ -260,8 +330,8 @@ fn answer(
 fn run_on(other: Pool, call: Call, pool: Pool, lengths: Lengths) {
     let mut low_significands = [MARK; PLACES];
     let mut high_significands = [MARK; PLACES];
-    let mut low_exponents = [EXPONENT_MARK; PLACES];
-    let mut high_exponents = [EXPONENT_MARK; PLACES];
+    let mut low_exponents = [INTEGER_MARK; PLACES];
+    let mut high_exponents = [INTEGER_MARK; PLACES];
     pool::fill(
         other,
         &mut low_significands,

@@ -5,56 +5,18 @@ use pool::Tranche;
 use trial_pool::Call;
 use trial_pool::Lengths;
 use trial_pool::ROWS;
+use trial_pool::exact_lengths;
+use trial_pool::later_ends;
+use trial_pool::lists;
+use trial_pool::longer_lengths;
+use trial_pool::no_places;
+use trial_pool::over_others;
 use trial_pool::pool_of;
 use trial_pool::row;
 use trial_pool::run;
 use trial_pool::run_ample;
 use trial_pool::run_over;
 ghost use Prim.Native.Nat.{_≤_};
-
-// ---- for every call
-
-// A store that fits, and each slice one place short in turn.
-fn exact_lengths(call: Call, pool: Pool, exact: usize, short: usize) {
-    run(call, pool, Lengths(exact, exact, exact, exact));
-    run(call, pool, Lengths(short, exact, exact, exact));
-    run(call, pool, Lengths(exact, short, exact, exact));
-    run(call, pool, Lengths(exact, exact, short, exact));
-    run(call, pool, Lengths(exact, exact, exact, short));
-}
-
-fn longer_lengths(call: Call, pool: Pool, exact: usize)
-    requires { ⌜ exact ≤ 2145 ⌝ }
-{
-    run(
-        call,
-        pool,
-        Lengths(exact + 1, exact + 2, exact + 3, exact + 5),
-    );
-}
-
-// Probability and correlation at their ends, but for 0 and 0.
-fn later_ends(call: Call, assets: u32) {
-    run_ample(call, pool_of(assets, 0, 10_000));
-    run_ample(call, pool_of(assets, 5_000, 0));
-    run_ample(call, pool_of(assets, 5_000, 10_000));
-    run_ample(call, pool_of(assets, 10_000, 0));
-    run_ample(call, pool_of(assets, 10_000, 10_000));
-}
-
-// No places at all: where several grounds apply, the first is given.
-fn no_places(call: Call) {
-    run(call, pool_of(65, 1_000, 3_000), Lengths(0, 0, 0, 0));
-    run(call, pool_of(3, 10_001, 3_000), Lengths(0, 0, 0, 0));
-    run(call, pool_of(3, 1_000, 10_001), Lengths(0, 0, 0, 0));
-}
-
-// The outcome does not depend on what the slices held, and the places behind the store keep it.
-fn over_others(call: Call, pool: Pool) {
-    run_over(pool_of(10, 500, 250), call, pool);
-    run_over(pool_of(2, 500, 250), call, pool);
-    run_over(pool_of(64, 10_000, 10_000), call, pool);
-}
 
 // ---- the fill
 
@@ -146,59 +108,6 @@ fn filled_rows() {
     filled_row(three, 3);
     filled_row(three, 4);
     filled_row(pool_of(64, 1_000, 3_000), 64);
-}
-
-// ---- the column
-
-fn column_ample(assets: u32, probability: u32, correlation: u32) {
-    run_ample(
-        Call::Column(ROWS),
-        pool_of(assets, probability, correlation),
-    );
-}
-
-fn column_pools() {
-    column_ample(3, 1_000, 3_000);
-    column_ample(0, 1_000, 3_000);
-    column_ample(64, 1_000, 3_000);
-    column_ample(65, 1_000, 3_000);
-    column_ample(3, 10_001, 3_000);
-    column_ample(3, 1_000, 10_001);
-    column_ample(65, 10_001, 10_001);
-    column_ample(3, 10_001, 10_001);
-}
-
-fn column_ends(assets: u32) {
-    column_ample(assets, 0, 0);
-    later_ends(Call::Column(ROWS), assets);
-}
-
-// Also a column one place short, alone and with a slice, and longer.
-fn column_lengths(assets: u32, exact: usize, short: usize, rows: usize)
-    requires { ⌜ exact ≤ 2145 ⌝ ∗ ⌜ 1 ≤ rows ⌝ ∗ ⌜ rows ≤ 65 ⌝ }
-{
-    let pool = pool_of(assets, 1_000, 3_000);
-    let short_column = Call::Column(rows - 1);
-    exact_lengths(Call::Column(rows), pool, exact, short);
-    run(short_column, pool, Lengths(exact, exact, exact, exact));
-    run(short_column, pool, Lengths(exact, exact, exact, short));
-    longer_lengths(Call::Column(rows + 5), pool, exact);
-}
-
-fn columns() {
-    column_pools();
-    column_ends(1);
-    column_ends(20);
-    column_lengths(1, 3, 2, 2);
-    column_lengths(3, 10, 9, 4);
-    column_lengths(64, 2_145, 2_144, 65);
-    no_places(Call::Column(0));
-    over_others(Call::Column(ROWS), pool_of(3, 1_000, 3_000));
-    run_over(
-        pool_of(10, 500, 250),
-        Call::Column(ROWS),
-        pool_of(65, 1_000, 3_000),
-    );
 }
 
 // ---- the tranche loss
@@ -301,6 +210,13 @@ fn losses() {
 
 // ---- the last digits
 
+fn column_ample(assets: u32, probability: u32, correlation: u32) {
+    run_ample(
+        Call::Column(ROWS),
+        pool_of(assets, probability, correlation),
+    );
+}
+
 fn digits() {
     // A tail added from k up would have another unit; in most, so would certainty less the other chances.
     column_ample(5, 1_900, 1_500);
@@ -366,7 +282,7 @@ fn main() {
     fills();
     rows();
     filled_rows();
-    columns();
+    lists(false);
     losses();
     digits();
     edges();

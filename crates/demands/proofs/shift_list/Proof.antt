@@ -9,7 +9,7 @@ use Rattle.demands.proofs.shift_list.Tie as tie
 
 returns : tie.Need-returns
 unfolding store lent
-returns c = shift-meets (c .before .before .before .before .before .before .before .before .shift-list .ensures)
+returns c = shift-meets (c .before .before .before .before .before .before .before .shift-list .ensures)
 
 pub shift-list-spec : {M : Type 1} → statement M
 shift-list-spec =

@@ -1,0 +1,111 @@
+// Cases at the edges of what every call accepts, and of those that leave a list of entries 0 to n in a slice.
+use crate::Call;
+use crate::Lengths;
+use crate::ROWS;
+use crate::pool_of;
+use crate::run;
+use crate::run_ample;
+use crate::run_over;
+use pool::Pool;
+ghost use Prim.Native.Nat.{_≤_};
+
+// A store that fits, and each slice one place short in turn.
+pub fn exact_lengths(call: Call, pool: Pool, exact: usize, short: usize) {
+    run(call, pool, Lengths(exact, exact, exact, exact));
+    run(call, pool, Lengths(short, exact, exact, exact));
+    run(call, pool, Lengths(exact, short, exact, exact));
+    run(call, pool, Lengths(exact, exact, short, exact));
+    run(call, pool, Lengths(exact, exact, exact, short));
+}
+
+pub fn longer_lengths(call: Call, pool: Pool, exact: usize)
+    requires { ⌜ exact ≤ 2145 ⌝ }
+{
+    run(
+        call,
+        pool,
+        Lengths(exact + 1, exact + 2, exact + 3, exact + 5),
+    );
+}
+
+// Probability and correlation at their ends, but for 0 and 0.
+pub fn later_ends(call: Call, assets: u32) {
+    run_ample(call, pool_of(assets, 0, 10_000));
+    run_ample(call, pool_of(assets, 5_000, 0));
+    run_ample(call, pool_of(assets, 5_000, 10_000));
+    run_ample(call, pool_of(assets, 10_000, 0));
+    run_ample(call, pool_of(assets, 10_000, 10_000));
+}
+
+// No places at all: where several grounds apply, the first is given.
+pub fn no_places(call: Call) {
+    run(call, pool_of(65, 1_000, 3_000), Lengths(0, 0, 0, 0));
+    run(call, pool_of(3, 10_001, 3_000), Lengths(0, 0, 0, 0));
+    run(call, pool_of(3, 1_000, 10_001), Lengths(0, 0, 0, 0));
+}
+
+// The outcome does not depend on what the slices held, and the places behind the store keep it.
+pub fn over_others(call: Call, pool: Pool) {
+    run_over(pool_of(10, 500, 250), call, pool);
+    run_over(pool_of(2, 500, 250), call, pool);
+    run_over(pool_of(64, 10_000, 10_000), call, pool);
+}
+
+// ---- a list
+
+// A shift list, or else a column, in so many places.
+fn listing(shifts: bool, places: usize) -> Call {
+    if shifts {
+        Call::Shifts(places)
+    } else {
+        Call::Column(places)
+    }
+}
+
+fn list_ample(shifts: bool, assets: u32, probability: u32, correlation: u32) {
+    run_ample(
+        listing(shifts, ROWS),
+        pool_of(assets, probability, correlation),
+    );
+}
+
+fn list_pools(shifts: bool) {
+    list_ample(shifts, 3, 1_000, 3_000);
+    list_ample(shifts, 0, 1_000, 3_000);
+    list_ample(shifts, 64, 1_000, 3_000);
+    list_ample(shifts, 65, 1_000, 3_000);
+    list_ample(shifts, 3, 10_001, 3_000);
+    list_ample(shifts, 3, 1_000, 10_001);
+    list_ample(shifts, 65, 10_001, 10_001);
+    list_ample(shifts, 3, 10_001, 10_001);
+}
+
+fn list_ends(shifts: bool, assets: u32) {
+    list_ample(shifts, assets, 0, 0);
+    later_ends(listing(shifts, ROWS), assets);
+}
+
+// Also a list one place short, alone and with a slice, and longer.
+fn list_lengths(shifts: bool, assets: u32, exact: usize, short: usize, entries: usize)
+    requires { ⌜ exact ≤ 2145 ⌝ ∗ ⌜ 1 ≤ entries ⌝ ∗ ⌜ entries ≤ 65 ⌝ }
+{
+    let pool = pool_of(assets, 1_000, 3_000);
+    let short_list = listing(shifts, entries - 1);
+    exact_lengths(listing(shifts, entries), pool, exact, short);
+    run(short_list, pool, Lengths(exact, exact, exact, exact));
+    run(short_list, pool, Lengths(exact, exact, exact, short));
+    longer_lengths(listing(shifts, entries + 5), pool, exact);
+}
+
+pub fn lists(shifts: bool) {
+    list_pools(shifts);
+    list_ends(shifts, 1);
+    list_ends(shifts, 20);
+    list_lengths(shifts, 1, 3, 2, 2);
+    list_lengths(shifts, 3, 10, 9, 4);
+    list_lengths(shifts, 64, 2_145, 2_144, 65);
+    no_places(listing(shifts, 0));
+    let list = listing(shifts, ROWS);
+    over_others(list, pool_of(3, 1_000, 3_000));
+    run_over(pool_of(10, 500, 250), list, pool_of(65, 1_000, 3_000));
+}

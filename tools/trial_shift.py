@@ -1,0 +1,61 @@
+"""Prints what crates/trial_shift must print, by tools/pools.py, and holds every shift list to the exact model.
+
+    python3 tools/trial_shift.py > crates/trial_shift/stdout
+"""
+from functools import lru_cache
+from math import comb
+
+from pools import UNITS, WHOLE, first, pool_grounds, shifts
+from trial_pool import listed, lists, made, random_pool
+from trial_support import SEED, following
+
+
+@lru_cache(maxsize=None)
+def exact_tails(n, p, rho):
+    """The tails at 0 to n by the closed form, as numerators over one denominator."""
+    power = n * (n + 1) // 2
+    joint, conditional = [WHOLE**power], p
+    for k in range(1, n + 1):
+        joint.append(joint[-1] * conditional // WHOLE**k)
+        conditional = conditional * (WHOLE - rho) + rho * WHOLE**k
+    chances = [
+        comb(n, j) * sum((-1)**i * comb(n - j, i) * joint[j + i] for i in range(n - j + 1)) for j in range(n + 1)
+    ]
+    assert sum(chances) == joint[0] and min(chances) >= 0
+    return [sum(chances[k:]) for k in range(n + 1)], joint[0]
+
+
+def hold(n, p, rho):
+    """What is promised of the list: 0 at 0, each entry less than 1.3 units off, the sum less than 1.3 * n."""
+    entries = shifts(made(n, p, rho)[0][1], made(n, p, 0)[0][1])
+    (tails, whole), (base, same) = exact_tails(n, p, rho), exact_tails(n, p, 0)
+    assert whole == same and sum(tails[1:]) * WHOLE == sum(base[1:]) * WHOLE == n * p * whole
+    assert entries[0] == 0 and max(map(abs, entries)) <= UNITS
+    assert all(10 * abs(entries[k] * whole - UNITS * (tails[k] - base[k])) < 13 * whole for k in range(n + 1))
+    assert 10 * abs(sum(entries[1:])) < 13 * n
+
+
+def shift_list(n, p, rho):
+    if not first(pool_grounds(n, p, rho)):
+        hold(n, p, rho)
+    listed("shifts", n, p, rho)
+
+
+def ends(n):
+    for p in (0, 1, 9999, 10000):
+        for rho in (0, 1, 9999, 10000):
+            shift_list(n, p, rho)
+
+
+def cases(count):
+    word = SEED
+    for _ in range(count):
+        n, p, rho, _ = random_pool(word)
+        shift_list(n, p, rho)
+        word = following(following(following(following(word))))
+
+
+lists("shifts")
+for n in (1, 2, 64):
+    ends(n)
+cases(300)
