@@ -5,7 +5,7 @@ crates/steps/specs/Cases.antt does not have.
 """
 from pathlib import Path
 
-from pools import loss, printed_rows, printed_tails, steps, tails
+from pools import loss, printed_rows, printed_tails, shifts, steps, tails
 
 CASES = (Path(__file__).parent.parent / "crates/steps/specs/Cases.antt").read_text()
 
@@ -37,6 +37,8 @@ def main():
     for k in range(4):
         line(f"(threeRow {k} ≡ {rows[k]})")
         line(f"(threeTail {k} ≡ {printed[k]})")
+    for k, shift in enumerate(shifts(made[0][1], steps(0, 3, 1000, 0)[1])):
+        line(f"(threeShift {k} ≡ {f'pos {shift}' if shift >= 0 else f'negsuc {-shift - 1}'})")
     others = [steps(side, 3, 500, 500)[1] for side in (0, 1)]
     digits("threeTails 500 500 1", lambda side: tails(side, others[side])[1])
     line(f"(printedTail 3 (keptDefaults Low 3 500 500) 3 ≡ {printed_tails(others[0])[3]})")

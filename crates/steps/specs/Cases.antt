@@ -1,10 +1,11 @@
--- Pools of 3 assets and of one by the steps, digit for digit, and the column that the scope paper prints for p = 1000 and ρ = 3000. The digits were worked out in exact
+-- Pools of 3 assets and of one by the steps, digit for digit, the column that the scope paper prints for p = 1000 and ρ = 3000, and the shift
+-- list of that pool. The digits were worked out in exact
 -- fractions by tools/steps_figures.py.
 -- Assumes nothing.
 use Prim.Native.Nat.{ℕ, _-_, _*_, _<_}
 use mathlib.Core.Path.{_≡_, refl}
 use lib.Dec.{lit<}
-use lib.IntN.{negsuc}
+use lib.IntN.{ℤ, pos, negsuc}
 use lib.Ieee.{size}
 use Rattle.model.specs.Number.{choose, cut, raise}
 use Rattle.model.specs.Fraction.{integer, plus, times, divided, whole, complement, over}
@@ -20,6 +21,7 @@ use Rattle.steps.specs.CorrelatedBinomial.Rows.{constant, keptConditiona
 use Rattle.steps.specs.Counts.{keptCount}
 use Rattle.steps.specs.Chances.{keptTotal, keptChance, keptChances, keptTail, keptTerm, keptLoss}
 use Rattle.steps.specs.Column.{unitsOfCertainty, exactUnits, inUnits, printedTail, printedRow}
+use Rattle.steps.specs.Shifts.{tailShift}
 use Rattle.steps.specs.CorrelatedBinomial.{keptDefaults}
 use Rattle.steps.specs.Loss.{untouched, faint, shown, keptLeastShown, raisedToShown, lossAnswer}
 
@@ -44,6 +46,10 @@ threeRow k = printedRow 3 (keptDefaults Low 3 1000 3000) k
 
 abbrev threeTail : ℕ → ℕ
 threeTail k = printedTail 3 (keptDefaults Low 3 1000 3000) k
+
+-- The printed tail at k less that without correlation.
+abbrev threeShift : ℕ → ℤ
+threeShift k = tailShift 3 (keptDefaults Low 3 1000 3000) (keptDefaults Low 3 1000 0) k
 
 pub cases :
     Digits (λ side. keptRow side 1000 3000 1 0) 3865470566 3865470567 31
@@ -71,6 +77,10 @@ pub cases :
     × (threeTail 1 ≡ 20968)
     × (threeTail 2 ≡ 6963)
     × (threeTail 3 ≡ 2068)
+    × (threeShift 0 ≡ pos 0)
+    × (threeShift 1 ≡ negsuc 6130)
+    × (threeShift 2 ≡ pos 4164)
+    × (threeShift 3 ≡ pos 1969)
     -- Here the order of the sums shows in the last digit.
     × Digits (threeTails 500 500 1) 2337669897 2337669905 33
     -- A tranche that defaults reach, one that none reaches, and a high bound of 2^−870 with a low bound of zero.
@@ -80,7 +90,7 @@ pub cases :
     -- A tail of 69.5 units is rounded down, and one of 10,000 units has less on the low side.
     × (printedTail 3 (keptDefaults Low 3 500 500) 3 ≡ 69)
     × (printedTail 1 (keptDefaults Low 1 1000 3000) 1 ≡ 9999)
-unfolding scaled nought unity increment carry round roundedProduct roundedSum roundedQuotient ofInteger ofBasisPoints size choose cut raise integer plus times divided whole complement over pass passed lossUnits constant keptConditional keptJoint keptPower keptWeight keptPassStep keptRow keptTotal keptCount keptChance keptChances keptTail keptTerm keptLoss unitsOfCertainty exactUnits wholeOf inUnits printedTail printedRow keptDefaults leastShown belowShown keptLeastShown raisedToShown lossAnswer
+unfolding scaled nought unity increment carry round roundedProduct roundedSum roundedQuotient ofInteger ofBasisPoints size choose cut raise integer plus times divided whole complement over pass passed lossUnits constant keptConditional keptJoint keptPower keptWeight keptPassStep keptRow keptTotal keptCount keptChance keptChances keptTail keptTerm keptLoss unitsOfCertainty exactUnits wholeOf inUnits printedTail printedRow tailShift keptDefaults leastShown belowShown keptLeastShown raisedToShown lossAnswer
 cases = (
   (refl, refl),
   (refl, refl),
@@ -99,6 +109,10 @@ cases = (
   (refl, refl),
   (refl, refl),
   (refl, refl),
+  refl,
+  refl,
+  refl,
+  refl,
   refl,
   refl,
   refl,

@@ -20,7 +20,12 @@ abbrev μ-loop : tie.MeasureT-loop
 μ-loop n shifts₀ printed base places k₀ shifts k = suc n - k
 
 difference-requires : tie.Need-difference-requires Inv-loop μ-loop
-difference-requires c κs = let given = c .before .before .pre in (given .0 .at-most _ (omega arith), given .1 .0 .at-most _ (omega arith))
+difference-requires c κs =
+    let given = c .before .before .pre in
+    let k = c .before .loop .k in
+    let first = given .0 .at-most k (omega arith) in
+    let second = given .1 .0 .at-most k (omega arith) in
+    (omega arith, omega arith)
 
 loop-again : tie.Need-loop-again Inv-loop μ-loop
 loop-again c = (omega arith, changed-more (c .before .before .loop .inv .1) (omega arith) (result-back _ (c .difference .ok) ∙ c .difference .ensures))
