@@ -3,7 +3,7 @@ from functools import lru_cache
 
 from pools import WHOLE, column_refusal, fill_refusal, loss, loss_answer, loss_refusal, printed_rows, row_refusal
 from pools import shift_refusal, shifts, steps
-from trial_support import checksum, following, line
+from trial_support import SEED, checksum, following, line
 
 PLACES = 2150
 ROWS = 70
@@ -162,3 +162,21 @@ def random_pool(word):
     third = following(second)
     p, rho = (1, 0) if n > 55 and second % 2 == 0 else (basis_points(second), basis_points(third))
     return n, p, rho, basis_points(following(third))
+
+
+def random_tranche(word, recovery):
+    largest = WHOLE - recovery
+    if word % 2 == 0 and largest > 0:
+        return largest - 1, largest
+    second = following(word)
+    return basis_points(second), basis_points(following(second))
+
+
+def random_cases(count):
+    """Pools with a tranche each."""
+    word = SEED
+    for _ in range(count):
+        other = following(following(following(following(word))))
+        pool = random_pool(word)
+        yield *pool, *random_tranche(other, pool[3])
+        word = following(following(following(other)))

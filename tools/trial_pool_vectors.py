@@ -2,28 +2,9 @@
 
     python3 tools/trial_pool_vectors.py > crates/trial_pool_vectors/stdout
 """
-from pools import WHOLE
-from trial_pool import basis_points, fill, listed, random_pool, tranche_loss
-from trial_support import SEED, following
+from trial_pool import fill, listed, random_cases, tranche_loss
 
-
-def random_tranche(word, recovery):
-    largest = WHOLE - recovery
-    if word % 2 == 0 and largest > 0:
-        return largest - 1, largest
-    second = following(word)
-    return basis_points(second), basis_points(following(second))
-
-
-def cases(count):
-    word = SEED
-    for _ in range(count):
-        other = following(following(following(following(word))))
-        n, p, rho, recovery = random_pool(word)
-        fill(n, p, rho)
-        listed("column", n, p, rho)
-        tranche_loss(n, p, rho, recovery, *random_tranche(other, recovery))
-        word = following(following(following(other)))
-
-
-cases(300)
+for n, p, rho, *tranche in random_cases(300):
+    fill(n, p, rho)
+    listed("column", n, p, rho)
+    tranche_loss(n, p, rho, *tranche)

@@ -6,8 +6,7 @@ from functools import lru_cache
 from math import comb
 
 from pools import UNITS, WHOLE, first, pool_grounds, shifts
-from trial_pool import listed, lists, made, random_pool
-from trial_support import SEED, following
+from trial_pool import listed, lists, made, random_cases
 
 
 @lru_cache(maxsize=None)
@@ -47,15 +46,8 @@ def ends(n):
             shift_list(n, p, rho)
 
 
-def cases(count):
-    word = SEED
-    for _ in range(count):
-        n, p, rho, _ = random_pool(word)
-        shift_list(n, p, rho)
-        word = following(following(following(following(word))))
-
-
 lists("shifts")
 for n in (1, 2, 64):
     ends(n)
-cases(300)
+for n, p, rho, *_ in random_cases(300):
+    shift_list(n, p, rho)

@@ -1,8 +1,9 @@
 -- The buyer's demands, with their numbers, on what each call is given and what it leaves. Demands/Theorems.antt shows that the contract of each call implies
--- its part.
+-- its part; that of a call of a crate above this one, which has its demands here, is shown there.
 -- 1. Every input is answered or refused by one number, and a refused call leaves its slices as they were.
 -- 2. Two bounds that the rounding steps make lie round every exact value of the model.
--- 3. The two are at most one part in 100,000 apart; the rows of a column add to exactly 100,000 units, and each is less than 1.5 units off.
+-- 3. The two are at most one part in 100,000 apart; the rows of a column add to exactly 100,000 units, and each is less than 1.5 units off; the entries of a shift
+-- list past the first add to less than 1.3 units for each asset, and each is less than 1.3 units off.
 -- Assumes nothing.
 use Prim.Native.Nat.{ℕ, suc, _+_, _-_, _*_, _/_, _≤_, _<_}
 use mathlib.Core.Path.{_≡_}

@@ -1,6 +1,5 @@
--- Pools of 3 assets and of one by the steps, digit for digit, the column that the scope paper prints for p = 1000 and ρ = 3000, and the shift
--- list of that pool. The digits were worked out in exact
--- fractions by tools/steps_figures.py.
+-- Pools of 3 assets and of one by the steps, digit for digit; for p = 1000 and ρ = 3000 the column that the scope paper prints, and the shift list. The digits were
+-- worked out in exact fractions by tools/steps_figures.py.
 -- Assumes nothing.
 use Prim.Native.Nat.{ℕ, _-_, _*_, _<_}
 use mathlib.Core.Path.{_≡_, refl}

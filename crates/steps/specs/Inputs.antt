@@ -16,7 +16,7 @@ distanceFor n = 100000
 unfoldable pub tenthsFor : ℕ → ℕ
 tenthsFor n = 15
 
--- Entries 1 to n of a shift list add to less than so many tenths of a unit for each asset, above zero and below it.
+-- An entry of a shift list is less than so many tenths of a unit off, and entries 1 to n add to less than that for each asset, above zero and below it.
 unfoldable pub shiftTenths : ℕ
 shiftTenths = 13
 

@@ -1,9 +1,13 @@
-// Random pools.
+// Random pools and tranches.
+use crate::Call;
+use crate::ROWS;
+use crate::run_ample;
 use pool::Pool;
+use pool::Tranche;
 use trial_support::next;
 
 // Basis points: one in eight above 10,000, three in eight at 0, 1 or 10,000, and small numbers more often than by chance.
-pub fn basis_points(word: u64) -> u32 {
+fn basis_points(word: u64) -> u32 {
     let kind = word % 16;
     let rest = word >> 8;
     if kind < 2 {
@@ -47,7 +51,7 @@ fn assets(word: u64) -> u32 {
 }
 
 // Every second large pool has probability 1 and correlation 0: the losses of its highest tranches are about 2^−800.
-pub fn random_pool(word: u64) -> Pool {
+fn random_pool(word: u64) -> Pool {
     let assets = assets(word);
     let second = next(word);
     let third = next(second);
@@ -65,5 +69,44 @@ pub fn random_pool(word: u64) -> Pool {
         probability: basis_points(second),
         correlation: basis_points(third),
         recovery,
+    }
+}
+
+// Every second the narrowest below the largest loss, if that is not 0; else two attachments that do not depend on each other.
+fn random_tranche(word: u64, recovery: u32) -> Tranche {
+    if word % 2 == 0 {
+        if recovery < 10_000 {
+            return Tranche {
+                lower: 9_999 - recovery,
+                upper: 10_000 - recovery,
+            };
+        }
+    }
+    let second = next(word);
+    Tranche {
+        lower: basis_points(second),
+        upper: basis_points(next(second)),
+    }
+}
+
+// Runs the fill, the column and the tranche loss of a random pool, or else its shift list, and gives the word of the next.
+fn case(word: u64, shifts: bool) -> u64 {
+    let other = next(next(next(next(word))));
+    let pool = random_pool(word);
+    if shifts {
+        run_ample(Call::Shifts(ROWS), pool);
+    } else {
+        let tranche = random_tranche(other, pool.recovery);
+        run_ample(Call::Fill, pool);
+        run_ample(Call::Column(ROWS), pool);
+        run_ample(Call::Loss(tranche), pool);
+    }
+    next(next(next(other)))
+}
+
+pub fn random_cases(count: u32, shifts: bool) {
+    let mut word: u64 = 0x9e37_79b9_7f4a_7c15;
+    for _ in 0..count {
+        word = case(word, shifts);
     }
 }
