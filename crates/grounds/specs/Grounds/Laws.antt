@@ -151,15 +151,15 @@ row-accepted most n k length is none =
       row = ltb-false n k (off .1 .1 .0);
     }
 
-pub entries-accepted : {r : ℕ} (number most n p ρ : ℕ) (lengths : List ℕ) (places : ℕ) → r ≡ firstGround (entriesGrounds (suc number) most n p ρ lengths places)
-    → r ≡ 0 → EntriesAccepted most n p ρ lengths places
+pub entries-accepted : {r : ℕ} (number most n p ρ : ℕ) (lengths : List ℕ) (places : ℕ) → 0 < number
+    → r ≡ firstGround (entriesGrounds number most n p ρ lengths places) → r ≡ 0 → EntriesAccepted most n p ρ lengths places
 unfolding entriesGrounds entriesGround
-entries-accepted number most n p ρ lengths places is none =
-    let parts = none-of-both (fillGrounds most n p ρ lengths) (entriesGround (suc number) n places ∷ []) is none in
-    let above : T (ltb 0 (suc number) && true) = rw (lt-ltb 0 (suc number) (omega arith)) tt in
+entries-accepted number most n p ρ lengths places above is none =
+    let parts = none-of-both (fillGrounds most n p ρ lengths) (entriesGround number n places ∷ []) is none in
+    let is-numbered : T (ltb 0 number && true) = rw (lt-ltb 0 number above) tt in
     record {
       fill = fill-accepted most n p ρ lengths refl (parts .0);
-      entries = omega (arith, ltb-false places (n + 1) (none-applies (entriesGround (suc number) n places ∷ []) above refl (parts .1) .0));
+      entries = omega (arith, ltb-false places (n + 1) (none-applies (entriesGround number n places ∷ []) is-numbered refl (parts .1) .0));
     }
 
 pub loss-accepted : {r : ℕ} (most n p ρ R A B : ℕ) (lengths : List ℕ) → r ≡ firstGround (lossGrounds most n p ρ R A B lengths) → r ≡ 0

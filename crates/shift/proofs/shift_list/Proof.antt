@@ -3,6 +3,7 @@
 use mathlib.Core.Path.{_≡_, refl, sym, _∙_}
 use borrow.Author.Needs.{needs}
 use native.Mathlib.Omega.{arith}
+use lib.Dec.{lit<}
 use lib.ListN.{length}
 use Rattle.steps.specs.Inputs.{largestPool}
 use Rattle.steps.specs.Inputs.Laws.{range-uncorrelated, working-range}
@@ -26,7 +27,7 @@ accepted : (c : tie.Else1) → let args = c .before .before .before .before .arg
     EntriesAccepted largestPool (args .pool .assets) (args .pool .probability) (args .pool .correlation)
     (lengths (store (args .low-significands .now) (args .high-significands .now) (args .low-exponents .now) (args .high-exponents .now))) (length (args .shifts .now))
 unfolding lengths store shiftGrounds fourLengths largestPool
-accepted c = entries-accepted 9 _ _ _ _ _ _ (c .before .shift-refusal .ensures) (goes-on c)
+accepted c = entries-accepted 10 _ _ _ _ _ _ (lit< tt) (c .before .shift-refusal .ensures) (goes-on c)
 
 refused : tie.Need-returns
 unfolding shiftRefusal lengths store fourLengths largestPool

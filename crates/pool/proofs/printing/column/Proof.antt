@@ -3,6 +3,7 @@
 use mathlib.Core.Path.{_≡_, refl, sym, _∙_}
 use borrow.Author.Needs.{needs}
 use native.Mathlib.Omega.{arith}
+use lib.Dec.{lit<}
 use lib.ListN.{length}
 use Rattle.steps.specs.Inputs.{largestPool}
 use Rattle.grounds.specs.Grounds.{columnGrounds, fourLengths, EntriesAccepted}
@@ -24,7 +25,7 @@ accepted : (c : tie.Else1) → let args = c .before .before .before .before .bef
     EntriesAccepted largestPool (args .pool .assets) (args .pool .probability) (args .pool .correlation)
     (lengths (store (args .low-significands .now) (args .high-significands .now) (args .low-exponents .now) (args .high-exponents .now))) (length (args .units .now))
 unfolding lengths store columnGrounds fourLengths largestPool
-accepted c = entries-accepted 7 _ _ _ _ _ _ (c .before .column-refusal .ensures) (goes-on c)
+accepted c = entries-accepted 8 _ _ _ _ _ _ (lit< tt) (c .before .column-refusal .ensures) (goes-on c)
 
 refused : tie.Need-returns
 unfolding columnRefusal lengths store fourLengths largestPool
