@@ -7,4 +7,4 @@ use Rattle.grounds.proofs.column_refusal.Tie as tie
 
 pub column-refusal-spec : {M : Type 1} → statement M
 unfolding columnGrounds
-column-refusal-spec = tie.close (tie.spec (λ c κs. search needs) (λ c. search needs))
+column-refusal-spec = tie.close (tie.spec (λ c κs. search needs) (λ c. c .entries-refusal .ensures))

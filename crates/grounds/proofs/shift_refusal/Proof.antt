@@ -7,4 +7,4 @@ use Rattle.grounds.proofs.shift_refusal.Tie as tie
 
 pub shift-refusal-spec : {M : Type 1} → statement M
 unfolding shiftGrounds
-shift-refusal-spec = tie.close (tie.spec (λ c κs. search needs) (λ c. search needs))
+shift-refusal-spec = tie.close (tie.spec (λ c κs. search needs) (λ c. c .entries-refusal .ensures))
