@@ -34,19 +34,18 @@ pub figures : (n p ρ R A B k units shifts : ℕ) (lengths : List ℕ)
 unfolding assetsGround probabilityGround correlationGround recoveryGround upperGround attachmentsGround storeGround entriesGround rowGround storePlaces largestPool whole
 figures n p ρ R A B k units shifts lengths = (refl, refl, refl, refl, refl, refl, refl, refl, refl, refl)
 
--- The grounds that each call checks, in order.
-abbrev numbers : List Ground → List ℕ
-numbers [] = []
-numbers (g ∷ gs) = g .number ∷ numbers gs
-
-pub orders : (most n p ρ R A B k units shifts : ℕ) (lengths : List ℕ)
-    → (numbers (fillGrounds most n p ρ lengths) ≡ 1 ∷ 2 ∷ 3 ∷ 7 ∷ [])
-    × (numbers (rowGrounds most n k units) ≡ 1 ∷ 7 ∷ 9 ∷ [])
-    × (numbers (columnGrounds most n p ρ lengths units) ≡ 1 ∷ 2 ∷ 3 ∷ 7 ∷ 8 ∷ [])
-    × (numbers (shiftGrounds most n p ρ lengths shifts) ≡ 1 ∷ 2 ∷ 3 ∷ 7 ∷ 10 ∷ [])
-    × (numbers (lossGrounds most n p ρ R A B lengths) ≡ 1 ∷ 2 ∷ 3 ∷ 4 ∷ 5 ∷ 6 ∷ 7 ∷ [])
-unfolding fillGrounds rowGrounds entriesGrounds columnGrounds shiftGrounds lossGrounds poolGrounds trancheGrounds assetsGround probabilityGround correlationGround recoveryGround upperGround attachmentsGround storeGround entriesGround rowGround
-orders most n p ρ R A B k units shifts lengths = (refl, refl, refl, refl, refl)
+-- The grounds that each call checks, in order, with what it is given.
+pub orders : (most n p ρ R A B k length units shifts : ℕ) (lengths : List ℕ)
+    → (fillGrounds most n p ρ lengths ≡ assetsGround most n ∷ probabilityGround p ∷ correlationGround ρ ∷ storeGround n lengths ∷ [])
+    × (rowGrounds most n k length ≡ assetsGround most n ∷ storeGround n (length ∷ []) ∷ rowGround n k ∷ [])
+    × (columnGrounds most n p ρ lengths units
+    ≡ assetsGround most n ∷ probabilityGround p ∷ correlationGround ρ ∷ storeGround n lengths ∷ entriesGround 8 n units ∷ [])
+    × (shiftGrounds most n p ρ lengths shifts
+    ≡ assetsGround most n ∷ probabilityGround p ∷ correlationGround ρ ∷ storeGround n lengths ∷ entriesGround 10 n shifts ∷ [])
+    × (lossGrounds most n p ρ R A B lengths
+    ≡ assetsGround most n ∷ probabilityGround p ∷ correlationGround ρ ∷ recoveryGround R ∷ upperGround B ∷ attachmentsGround A B ∷ storeGround n lengths ∷ [])
+unfolding fillGrounds rowGrounds entriesGrounds columnGrounds shiftGrounds lossGrounds poolGrounds trancheGrounds
+orders most n p ρ R A B k length units shifts lengths = (refl, refl, refl, refl, refl)
 
 -- The numbers of the grounds that apply, of all ten.
 abbrev applying : List Ground → List ℕ

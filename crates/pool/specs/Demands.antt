@@ -200,19 +200,21 @@ module _ (pool : Pool) where
     pub one : Demand1 (fillGrounds 64 n p ρ (lengthsOf before)) refusal before after
     pub store : StoreDemands before after refusal
 
-  pub record ColumnDemands (before after : Slices) (units units′ : List ℕ) (refusal : ℕ) : Type 0 where
-    pub one : Demand1 {Given = Slices × List ℕ} (columnGrounds 64 n p ρ (lengthsOf before) (length units)) refusal (before, units) (after, units′)
+  -- What a call leaves that also writes entries 0 to n to a slice beside the store, which held `old`: a place behind them keeps its content.
+  pub record EntriesDemands {A : Type 0} (grounds : List Ground) (before after : Slices) (old new : List A) (refusal : ℕ) : Type 0 where
+    pub one : Demand1 {Given = Slices × List A} grounds refusal (before, old) (after, new)
     pub store : StoreDemands before after refusal
+    pub later-entries : refusal ≡ 0 → drop (n + 1) new ≡ drop (n + 1) old
+
+  pub record ColumnDemands (before after : Slices) (units units′ : List ℕ) (refusal : ℕ) : Type 0 where
+    pub leaves : EntriesDemands (columnGrounds 64 n p ρ (lengthsOf before) (length units)) before after units units′ refusal
     pub column : refusal ≡ 0 → Demand3Column n (chance (defaults n p ρ)) units′
-    pub later-rows : refusal ≡ 0 → drop (n + 1) units′ ≡ drop (n + 1) units
 
   -- The other correlation is 0.
   pub record ShiftDemands (before after : Slices) (shifts shifts′ : List ℤ) (refusal : ℕ) : Type 0 where
-    pub one : Demand1 {Given = Slices × List ℤ} (shiftGrounds 64 n p ρ (lengthsOf before) (length shifts)) refusal (before, shifts) (after, shifts′)
-    pub store : StoreDemands before after refusal
+    pub leaves : EntriesDemands (shiftGrounds 64 n p ρ (lengthsOf before) (length shifts)) before after shifts shifts′ refusal
     pub list : refusal ≡ 0
         → Demand3Shifts n (printedTail n (keptDefaults Low n p ρ)) (printedTail n (keptDefaults Low n p 0)) (tail (defaults n p ρ)) (tail (defaults n p 0)) shifts′
-    pub later-entries : refusal ≡ 0 → drop (n + 1) shifts′ ≡ drop (n + 1) shifts
 
   module _ (tranche : Tranche) where
     abbrev R : ℕ

@@ -20,7 +20,7 @@ use Rattle.steps.specs.Exponents.Laws.{ranged-operand}
 use Rattle.steps.specs.Numbers.{is-chance, is-tail, of-chances, of-tails}
 use Rattle.working.specs.Working.{workingPlaces, Entries}
 use Rattle.working.specs.Working.Laws.{entries-more, Changed}
-use Rattle.working.specs.Slices.{tabulate, overwritten, entriesAfter}
+use Rattle.working.specs.Slices.{overwritten, entriesAfter}
 use Rattle.working.specs.Slices.Laws.{tabulate-same, changed-overwritten}
 use Rattle.chances.specs.Chances.{StepsReady}
 use Rattle.chances.specs.Chances.Laws.{entry-operand}

@@ -10,7 +10,7 @@ use lib.ListN.{length, getD, drop}
 use Rattle.model.specs.Number.{triangle}
 use Rattle.model.specs.Number.Laws.{triangle-closed}
 use Rattle.model.specs.Fraction.{Fraction, Same, AtMost}
-use Rattle.model.specs.Fraction.Laws.{same-refl, at-most-refl, less-at-most-trans, plus-mono}
+use Rattle.model.specs.Fraction.Laws.{same-refl}
 use Rattle.model.specs.Chances.{Chances, chance}
 use Rattle.model.specs.CorrelatedBinomial.{defaults}
 use Rattle.kept.specs.declared.Kept.{Kept}
@@ -20,6 +20,7 @@ use Rattle.kept.specs.Rounding.{value}
 use Rattle.kept.specs.Binary64.{leastShown}
 use Rattle.steps.specs.CorrelatedBinomial.Rows.{keptRow}
 use Rattle.steps.specs.Column.{unitsOfCertainty, exactUnits, tenths}
+use Rattle.steps.specs.Column.Laws.{within-weaken}
 use Rattle.steps.specs.Enclosure.{Enclosed}
 use Rattle.steps.specs.Loss.{raisedToShown, Says}
 use Rattle.steps.specs.Loss.Laws.{raised-greater, least-shown-value}
@@ -28,10 +29,11 @@ use Rattle.steps.specs.Inputs.{largestPool, distanceFor, tenthsFor}
 use Rattle.steps.specs.Promises.{HoldsColumn}
 use Rattle.steps.specs.Chances.{keptLoss}
 use Rattle.chances.specs.Loss.{lossOf}
-use Rattle.working.specs.Slices.{overwritten, numberAt}
+use Rattle.working.specs.Slices.{overwritten, entriesAfter, numberAt}
 use Rattle.working.specs.Slices.Laws.{overwritten-later, entries-kept, entries-later}
 use Rattle.rows.specs.Store.{filledSide, stored}
 use Rattle.rows.specs.Store.Laws.{stored-length}
+use Rattle.grounds.specs.Grounds.{Ground, firstGround}
 use Rattle.grounds.specs.Grounds.Laws.{row-accepted}
 use Rattle.store.specs.declared.Pool.{Pool}
 use Rattle.pool.specs.declared.Tranche.{Tranche}
@@ -44,7 +46,7 @@ use Rattle.store.specs.Calls.{LeavesStore, Fills, fillRefusal, HandsRow, rowRef
 use Rattle.pool.specs.Answers.{replyOf, refusalOf}
 use Rattle.pool.specs.Calls.{columnRefusal, Prints, lossRefusal, Wide, PoolHoldsLoss, AnswersLoss, Replies}
 use Rattle.pool.specs.Demands.{BoundDemands, oneAndAHalf, Demand3Column, Slices, significandsOn, numberOn, from, TableDemands, StoreDemands, edge, LossDemands, AnswerDemands, exactLoss, refusalIn}
-use Rattle.pool.specs.Demands.{FillDemands, RowDemands, ColumnDemands, TrancheDemands}
+use Rattle.pool.specs.Demands.{FillDemands, RowDemands, EntriesDemands, ColumnDemands, TrancheDemands}
 
 -- The four slices of a store.
 abbrev pub slices : Store → Slices
@@ -73,7 +75,7 @@ later-filled side n p ρ field old =
 
 module _ {pool : Pool} {before after : Store} {refusal : ℕ} (leaves : LeavesStore pool before after refusal) where
   -- A refused call leaves the store as it was.
-  pub store-kept : (refusal ≡ 0 → ⊥) → after ≡ before
+  store-kept : (refusal ≡ 0 → ⊥) → after ≡ before
   unfolding storeAfter
   store-kept some = by-number refusal leaves some
     where
@@ -106,8 +108,17 @@ module _ {pool : Pool} {before after : Store} {refusal : ℕ} (leaves : LeavesSt
         let is : after ≡ storeAfter (pool .assets) (pool .probability) (pool .correlation) 0 before = rw none at (leaves .store-is) in
         rw is (simp later-filled refl)
 
-  pub store-meets : StoreDemands pool (slices before) (slices after) refusal
+  store-meets : StoreDemands pool (slices before) (slices after) refusal
   store-meets = record { table = table-meets; later = later-meets }
+
+  -- With a slice beside the store, whatever grounds the call checks and whatever entries it writes.
+  pub entries-meet : {A : Type 0} {grounds : List Ground} (f : ℕ → A) (old : List A) {new : List A} → refusal ≡ firstGround grounds
+      → new ≡ entriesAfter (pool .assets) f refusal old → EntriesDemands pool grounds (slices before) (slices after) old new refusal
+  entries-meet f old is entries = record {
+    one = record { number = is; untouched = λ some. rw (store-kept some, entries-kept (pool .assets) f old entries some) refl };
+    store = store-meets;
+    later-entries = entries-later (pool .assets) f old entries;
+  }
 
 pub fill-meets : {pool : Pool} {before after : Store} {refusal : ℕ} → Fills pool before after refusal → FillDemands pool (slices before) (slices after) refusal
 unfolding fillRefusal lengths largestPool
@@ -143,24 +154,17 @@ rows-meet : {off : Fraction} {r : Chances} {low : ℕ → Kept} {units : List �
 unfolding unitsOfCertainty exactUnits
 rows-meet most holds = record {
   total = holds .total;
-  not-above = λ k l. less-at-most-trans (holds .near k l .not-above) (plus-mono at-most-refl most);
-  not-below = λ k l. less-at-most-trans (holds .near k l .not-below) (plus-mono at-most-refl most);
+  not-above = λ k l. within-weaken most (holds .near k l) .not-above;
+  not-below = λ k l. within-weaken most (holds .near k l) .not-below;
 }
 
 pub column-meets : {pool : Pool} {before after : Store} {units units′ : List ℕ} {refusal : ℕ} → Prints pool before after units units′ refusal
     → ColumnDemands pool (slices before) (slices after) units units′ refusal
 unfolding columnRefusal lengths largestPool tenths tenthsFor oneAndAHalf defaults
-column-meets prints =
-    let leaves = prints .leaves in
-    record {
-      one = record {
-        number = prints .refusal-is;
-        untouched = λ some. rw (store-kept leaves some, entries-kept _ _ _ (prints .units-are) some) refl;
-      };
-      store = store-meets leaves;
-      column = λ none. rows-meet (record { cross = lit≤ tt }) (prints .holds-column none);
-      later-rows = entries-later _ _ _ (prints .units-are);
-    }
+column-meets prints = record {
+  leaves = entries-meet (prints .leaves) _ _ (prints .refusal-is) (prints .units-are);
+  column = λ none. rows-meet (record { cross = lit≤ tt }) (prints .holds-column none);
+}
 
 -- ---- the loss
 

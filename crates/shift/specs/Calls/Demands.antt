@@ -1,7 +1,6 @@
 -- The contract of the call for a shift list implies what is demanded of it.
 -- Assumes nothing.
 use Prim.Native.Nat.{ℕ}
-use mathlib.Core.Path.{refl}
 use mathlib.Core.List.{List}
 use lib.Dec.{lit≤}
 use lib.IntN.{ℤ}
@@ -15,11 +14,10 @@ use Rattle.steps.specs.Column.Laws.{within-weaken}
 use Rattle.steps.specs.Shifts.{tailShift}
 use Rattle.steps.specs.Inputs.{largestPool, shiftTenths}
 use Rattle.steps.specs.Promises.{HoldsShifts}
-use Rattle.working.specs.Slices.Laws.{entries-kept, entries-later}
 use Rattle.store.specs.declared.Pool.{Pool}
 use Rattle.store.specs.Stores.{Store, lengths}
 use Rattle.pool.specs.Demands.{oneAndThreeTenths, Demand3Shifts, ShiftDemands}
-use Rattle.pool.specs.Demands.Theorems.{slices, store-kept, store-meets}
+use Rattle.pool.specs.Demands.Theorems.{slices, entries-meet}
 use Rattle.shift.specs.Calls.{shiftRefusal, ListsShifts}
 
 -- A shift list of any two rows whose offset is 1.3 units at most.
@@ -38,14 +36,7 @@ list-meets most holds = record {
 pub shift-meets : {pool : Pool} {before after : Store} {shifts shifts′ : List ℤ} {refusal : ℕ} → ListsShifts pool before after shifts shifts′ refusal
     → ShiftDemands pool (slices before) (slices after) shifts shifts′ refusal
 unfolding shiftRefusal lengths largestPool tenths shiftTenths oneAndThreeTenths defaults
-shift-meets lists =
-    let leaves = lists .leaves in
-    record {
-      one = record {
-        number = lists .refusal-is;
-        untouched = λ some. rw (store-kept leaves some, entries-kept _ _ _ (lists .shifts-are) some) refl;
-      };
-      store = store-meets leaves;
-      list = λ none. list-meets (record { cross = lit≤ tt }) (lists .holds-shifts none);
-      later-entries = entries-later _ _ _ (lists .shifts-are);
-    }
+shift-meets lists = record {
+  leaves = entries-meet (lists .leaves) _ _ (lists .refusal-is) (lists .shifts-are);
+  list = λ none. list-meets (record { cross = lit≤ tt }) (lists .holds-shifts none);
+}

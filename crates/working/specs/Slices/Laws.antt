@@ -36,7 +36,7 @@ module _ {A : Type 0} where
   tabulate-same zero same = refl
   tabulate-same (suc m) same = rw (tabulate-same m (λ i l. same i (omega arith)), same m (omega arith))
 
-  pub overwritten-at : (new old : List A) (i : ℕ) (d : A) → i < length new → getD (overwritten new old) i d ≡ getD new i d
+  overwritten-at : (new old : List A) (i : ℕ) (d : A) → i < length new → getD (overwritten new old) i d ≡ getD new i d
   unfolding overwritten
   overwritten-at new old i d l = List·getD-append new _ d i l
 
