@@ -15,7 +15,7 @@ use Rattle.steps.specs.Exponents.{Ranged}
 use Rattle.steps.specs.Numbers.{TailNumber}
 use Rattle.steps.specs.Inputs.{workingAssets}
 use Rattle.working.specs.Working.{workingPlaces, Entries}
-use Rattle.working.specs.Slices.{tabulate, overwritten, entriesAfter}
+use Rattle.working.specs.Slices.{entriesAfter}
 use Rattle.chances.specs.Chances.{StepsReady}
 pub mod Laws
 
@@ -52,9 +52,9 @@ pub record Falling (n : ℕ) (printed : List ℕ) : Type 0 where
   pub assets : n ≤ workingAssets
   pub falls : (k : ℕ) → k ≤ n → getD printed (k + 1) 0 ≤ getD printed k 0
 
--- Rows 0 to n in a slice that held `old`: each is what its printed tail has more than the next.
-pub record RowsPrinted (n : ℕ) (printed old new : List ℕ) : Type 0 where
-  pub rows : new ≡ overwritten (tabulate (suc n) (λ k. getD printed k 0 - getD printed (k + 1) 0)) old
+-- What the tail at k has more than the next.
+abbrev pub differenceAt : List ℕ → ℕ → ℕ
+differenceAt printed k = getD printed k 0 - getD printed (k + 1) 0
 
 -- ---- the column of a row
 

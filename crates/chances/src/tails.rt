@@ -10,7 +10,8 @@ ghost use lib.ListN.{length};
 ghost use Rattle.model.specs.Fraction.{AtMost, integer};
 ghost use Rattle.kept.specs.Rounding.{IsKept, value};
 ghost use Rattle.steps.specs.Column.{inUnits};
-ghost use Rattle.chances.specs.Tails.{TailsReady, TailsMade, Printable, TailsPrinted, Falling, RowsPrinted, ColumnReady, RowTailsPrinted, ColumnPrinted};
+ghost use Rattle.working.specs.Slices.{entriesAfter};
+ghost use Rattle.chances.specs.Tails.{TailsReady, TailsMade, Printable, TailsPrinted, Falling, differenceAt, ColumnReady, RowTailsPrinted, ColumnPrinted};
 
 // The tails at 0 to n, and that past n.
 pub const TAILS: usize = PLACES + 1;
@@ -66,7 +67,7 @@ pub fn print_tails(n: u32, row: [Kept; PLACES]) -> [u32; TAILS]
 // Rows 0 to n, from the printed tails, into the start of the slice.
 fn print_rows(n: u32, printed: [u32; TAILS], units: &mut [u32])
     requires { ⌜ Falling n printed ⌝ ∗ ⌜ n < length (now units) ⌝ }
-    ensures { λ _. ⌜ RowsPrinted n printed (now (units .entry)) (now (units .exit)) ⌝ }
+    ensures { λ _. ⌜ now (units .exit) ≡ entriesAfter n (differenceAt printed) 0 (now (units .entry)) ⌝ }
 {
     let places = n as usize + 1;
     for k in 0..places {

@@ -21,8 +21,8 @@ pub record InUnits (n : ℕ) (printed : List ℕ) : Type 0 where
   pub at-most : (k : ℕ) → k ≤ n → getD printed k 0 ≤ unitsOfCertainty
 
 -- The first printed tail at k less the second.
-abbrev pub differenceAt : (printed base : List ℕ) → ℕ → ℤ
-differenceAt printed base k = pos (getD printed k 0) -ℤ pos (getD base k 0)
+abbrev pub shiftAt : (printed base : List ℕ) → ℕ → ℤ
+shiftAt printed base k = pos (getD printed k 0) -ℤ pos (getD base k 0)
 
 -- What two rows leave in a slice that held `old`: entries 0 to n of their shift list.
 pub record ShiftsPrinted (n : ℕ) (row base : List Kept) (old new : List ℤ) : Type 0 where

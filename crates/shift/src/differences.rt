@@ -10,7 +10,7 @@ ghost use lib.ListN.{length};
 ghost use Rattle.steps.specs.Column.{unitsOfCertainty};
 ghost use Rattle.working.specs.Slices.{entriesAfter};
 ghost use Rattle.chances.specs.Tails.{ColumnReady};
-ghost use Rattle.shift.specs.Differences.{InUnits, differenceAt, ShiftsPrinted};
+ghost use Rattle.shift.specs.Differences.{InUnits, shiftAt, ShiftsPrinted};
 
 // a − b, of two numbers of units.
 fn difference(a: u32, b: u32) -> i32
@@ -23,7 +23,7 @@ fn difference(a: u32, b: u32) -> i32
 // For k from 0 to n the first printed tail at k less the second, into the start of the slice.
 fn write_differences(n: u32, printed: [u32; TAILS], base: [u32; TAILS], shifts: &mut [i32])
     requires { ⌜ InUnits n printed ⌝ ∗ ⌜ InUnits n base ⌝ ∗ ⌜ n < length (now shifts) ⌝ }
-    ensures { λ _. ⌜ now (shifts .exit) ≡ entriesAfter n (differenceAt printed base) 0 (now (shifts .entry)) ⌝ }
+    ensures { λ _. ⌜ now (shifts .exit) ≡ entriesAfter n (shiftAt printed base) 0 (now (shifts .entry)) ⌝ }
 {
     let places = n as usize + 1;
     for k in 0..places {

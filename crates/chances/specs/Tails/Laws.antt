@@ -1,7 +1,7 @@
 -- Tails, printed tails and rows, place by place.
 -- Assumes nothing.
 use Prim.Native.Nat.{ℕ, zero, suc, _+_, _-_, _^_, _≤_, _<_}
-use mathlib.Core.Path.{_≡_, refl, ap, _∙_}
+use mathlib.Core.Path.{_≡_, refl, _∙_}
 use mathlib.Core.List.{List}
 use native.Mathlib.Decide.{decLe}
 use native.Mathlib.Numerals.{add-one}
@@ -19,12 +19,12 @@ use Rattle.steps.specs.Column.{unitsOfCertainty, exactUnits, inUnits, printedTa
 use Rattle.steps.specs.Exponents.Laws.{ranged-operand}
 use Rattle.steps.specs.Numbers.{is-chance, is-tail, of-chances, of-tails}
 use Rattle.working.specs.Working.{workingPlaces, Entries}
-use Rattle.working.specs.Working.Laws.{entries-more, Changed}
-use Rattle.working.specs.Slices.{overwritten, entriesAfter}
-use Rattle.working.specs.Slices.Laws.{tabulate-same, changed-overwritten}
+use Rattle.working.specs.Working.Laws.{entries-more}
+use Rattle.working.specs.Slices.{entriesAfter}
+use Rattle.working.specs.Slices.Laws.{after-same}
 use Rattle.chances.specs.Chances.{StepsReady}
 use Rattle.chances.specs.Chances.Laws.{entry-operand}
-use Rattle.chances.specs.Tails.{Tails, TailsReady, TailsMade, Printable, TailsPrinted, Falling, RowsPrinted, ColumnReady}
+use Rattle.chances.specs.Tails.{Tails, TailsReady, TailsMade, Printable, TailsPrinted, Falling, differenceAt, ColumnReady}
 
 -- ---- tails
 
@@ -136,16 +136,6 @@ module _ {n k : ℕ} {tails : List Kept} {printed : List ℕ} (done : PrintedBel
   pub printed-all : k ≡ suc (suc n) → TailsPrinted n tails printed
   printed-all all = record { printed-are = rw all at (done .made) }
 
--- ---- rows
-
--- What the tail at k has more than the next.
-abbrev pub differenceAt : List ℕ → ℕ → ℕ
-differenceAt printed k = getD printed k 0 - getD printed (k + 1) 0
-
-pub rows-printed : {n k : ℕ} {printed old new : List ℕ} → Changed (length old) (length old) k old new (differenceAt printed) → k ≡ suc n → n < length old
-    → RowsPrinted n printed old new
-rows-printed {old} done all l = record { rows = changed-overwritten 0 old (rw all at done) l (λ k h. refl) }
-
 -- ---- the column of a row
 
 -- The tails of the chances that step 4 makes.
@@ -181,10 +171,8 @@ module _ {n : ℕ} {row : List Kept} (ready : ColumnReady n row) where
   }
 
 -- Rows from printed tails are those of the column.
-pub rows-are : {n : ℕ} (c : ℕ → Kept) {printed old new : List ℕ} → Tails n printed (printedTail n c) → RowsPrinted n printed old new
+pub rows-are : {n : ℕ} (c : ℕ → Kept) (printed old : List ℕ) {new : List ℕ} → Tails n printed (printedTail n c) → new ≡ entriesAfter n (differenceAt printed) 0 old
     → new ≡ entriesAfter n (printedRow n c) 0 old
-unfolding entriesAfter printedRow
-rows-are {n} c {old} made printed =
-    printed .rows
-    ∙ ap (λ rows. overwritten rows old)
-    (tabulate-same (suc n) (λ k l. rw (add-one k, made .entry 0 k (omega arith), made .entry 0 (suc k) (omega arith))))
+unfolding printedRow
+rows-are {n} c printed old made is =
+    after-same (differenceAt printed) (printedRow n c) old is (λ k l. rw (add-one k, made .entry 0 k (omega arith), made .entry 0 (suc k) (omega arith)))

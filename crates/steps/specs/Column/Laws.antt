@@ -28,6 +28,10 @@ pub falls-at-most : {t : ℕ → ℕ} → ((k : ℕ) → t (suc k) ≤ t k) → 
 falls-at-most {t} falls zero = le-refl (t 0)
 falls-at-most falls (suc k) = le-trans (falls k) (falls-at-most falls k)
 
+pub printed-at-zero : (n : ℕ) (c : ℕ → Kept) → printedTail n c 0 ≡ unitsOfCertainty
+unfolding printedTail
+printed-at-zero n c = refl
+
 -- ---- the column
 
 rows-total : {t : ℕ → ℕ} (rows : ℕ → ℕ) → ((k : ℕ) → rows k + t (suc k) ≡ t k) → (m : ℕ) → sum m rows + t m ≡ t 0
@@ -157,7 +161,7 @@ module _ {b : ℕ} {r : Chances} {c : Side → ℕ → Kept} (bounded : Bounded 
       | zero ↦ less-at-most-trans (more-than 0) (plus-mono (low-at-most-one 0) at-most-refl)
       | suc j ↦ more-than (suc j)
     ];
-    at-zero = refl;
+    at-zero = printed-at-zero (r .assets) (c Low);
     past = unfold keptTail keptTotal in (rw sub-self in-units-nought);
   }
     where

@@ -1,7 +1,7 @@
 -- The laws of what is written to slices.
 -- Assumes nothing.
 use Prim.Native.Nat.{ℕ, zero, suc, _+_, _-_, _≤_, _<_}
-use mathlib.Core.Path.{_≡_, refl, sym, ap₂, _∙_}
+use mathlib.Core.Path.{_≡_, refl, sym, ap, ap₂, _∙_}
 use mathlib.Core.List.{List, [], _∷_, _++_, map, map-append, append-nil, append-assoc}
 use native.Mathlib.Decide.{decLe}
 use native.Mathlib.Nat.{zero-add, add-zero, add-suc}
@@ -31,7 +31,7 @@ module _ {A : Type 0} where
     | no h ↦ List·getD-append (tabulate m f) (f m ∷ []) d j (omega (arith, length-tabulate m f)) ∙ getD-tabulate m f j d (omega arith)
   ]
 
-  pub tabulate-same : {f g : ℕ → A} (m : ℕ) → ((i : ℕ) → i < m → f i ≡ g i) → tabulate m f ≡ tabulate m g
+  tabulate-same : {f g : ℕ → A} (m : ℕ) → ((i : ℕ) → i < m → f i ≡ g i) → tabulate m f ≡ tabulate m g
   unfolding tabulate
   tabulate-same zero same = refl
   tabulate-same (suc m) same = rw (tabulate-same m (λ i l. same i (omega arith)), same m (omega arith))
@@ -84,6 +84,12 @@ pub changed-entries : {A : Type 0} (d : A) {n k : ℕ} (old : List A) {new : Lis
     → n < length old → new ≡ entriesAfter n f 0 old
 unfolding entriesAfter
 changed-entries d old done all l = changed-overwritten d old (rw all at done) l (λ i h. refl)
+
+-- The same entries by another function.
+pub after-same : {A : Type 0} {n : ℕ} (f g : ℕ → A) (old : List A) {new : List A} → new ≡ entriesAfter n f 0 old → ((k : ℕ) → k ≤ n → f k ≡ g k)
+    → new ≡ entriesAfter n g 0 old
+unfolding entriesAfter
+after-same {n} f g old is same = is ∙ ap (λ entries. overwritten entries old) (tabulate-same (suc n) (λ k l. same k (omega arith)))
 
 module _ {A : Type 0} (n : ℕ) (f : ℕ → A) (old : List A) where
   pub entries-untouched : (refusal : ℕ) → (refusal ≡ 0 → ⊥) → old ≡ entriesAfter n f refusal old

@@ -12,7 +12,7 @@ print-rows-requires c κs =
 
 returns : tie.Need-returns
 returns c = record {
-  units-are = λ entry e. rows-are _ (c .before .before .before .before .print-tails .ensures .tails-are entry e) (c .before .before .print-rows .ensures);
+  units-are = λ entry e. rows-are _ _ _ (c .before .before .before .before .print-tails .ensures .tails-are entry e) (c .before .before .print-rows .ensures);
 }
 
 pub print-column-spec : {M : Type 1} → statement M

@@ -6,7 +6,8 @@ use native.Mathlib.Omega.{arith}
 use lib.ListN.{length}
 use Rattle.steps.specs.Inputs.{workingAssets}
 use Rattle.working.specs.Working.Laws.{Changed, changed-none, changed-more}
-use Rattle.chances.specs.Tails.Laws.{differenceAt, rows-printed}
+use Rattle.working.specs.Slices.Laws.{changed-entries}
+use Rattle.chances.specs.Tails.{differenceAt}
 use Rattle.chances.proofs.tails.print_rows.Statement.{statement}
 use Rattle.chances.proofs.tails.print_rows.Tie as tie
 
@@ -30,4 +31,4 @@ print-rows-spec =
     (λ c. omega arith) (λ c. omega arith) (λ c. omega arith) (λ c. omega arith)
     loop-again
     (λ c. c .before .loop .inv .1 .new .places-are)
-    (λ c. rows-printed (c .before .loop .inv .1) (omega arith) (omega arith)))
+    (λ c. changed-entries 0 _ (c .before .loop .inv .1) (omega arith) (omega arith)))

@@ -16,7 +16,7 @@ returns c =
     let other = c .before .before .before in
     record {
       shifts-are = λ entry base e f.
-          shifts-are _ _ _ (other .before .print-tails .ensures .tails-are entry e) (other .print-tails2 .ensures .tails-are base f) (c .before .write-differences .ensures);
+          shifts-are _ _ _ _ _ (other .before .print-tails .ensures .tails-are entry e) (other .print-tails2 .ensures .tails-are base f) (c .before .write-differences .ensures);
     }
 
 pub print-shifts-spec : {M : Type 1} → statement M

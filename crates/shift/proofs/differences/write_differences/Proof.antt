@@ -9,12 +9,12 @@ use Rattle.kept.specs.Rounding.Exponents.{result-back}
 use Rattle.steps.specs.Inputs.{workingAssets}
 use Rattle.working.specs.Working.Laws.{Changed, changed-none, changed-more}
 use Rattle.working.specs.Slices.Laws.{changed-entries}
-use Rattle.shift.specs.Differences.{differenceAt}
+use Rattle.shift.specs.Differences.{shiftAt}
 use Rattle.shift.proofs.differences.write_differences.Statement.{statement}
 use Rattle.shift.proofs.differences.write_differences.Tie as tie
 
 abbrev Inv-loop : tie.InvT-loop
-Inv-loop n shifts₀ printed base places k₀ shifts k = (k ≤ suc n) × Changed (length shifts₀) (length shifts₀) k shifts₀ shifts (differenceAt printed base)
+Inv-loop n shifts₀ printed base places k₀ shifts k = (k ≤ suc n) × Changed (length shifts₀) (length shifts₀) k shifts₀ shifts (shiftAt printed base)
 
 abbrev μ-loop : tie.MeasureT-loop
 μ-loop n shifts₀ printed base places k₀ shifts k = suc n - k
