@@ -1,7 +1,7 @@
 """A pool by the six steps, in exact whole numbers: each product, sum and quotient is rounded once. A side is 0 (low) or 1 (high)."""
 import struct
 from fractions import Fraction
-from math import comb
+from math import comb, floor
 
 from kept import ONE, ZERO, plus, product, quotient, rounded, value
 
@@ -53,9 +53,14 @@ def loss(side, chances, recovery, lower, upper):
     return quotient(side, total, most)
 
 
+def in_units(x):
+    """A fraction in whole units, to nearest; what is exactly half way goes up."""
+    return floor(UNITS * x + Fraction(1, 2))
+
+
 def printed_tails(chances):
     """The tails in whole units, from the chances of the low side. That past n is zero."""
-    return [UNITS] + [int(UNITS * value(x)) for x in tails(0, chances)[1:]] + [0]
+    return [UNITS] + [in_units(value(x)) for x in tails(0, chances)[1:]] + [0]
 
 
 def printed_rows(chances):

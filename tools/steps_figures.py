@@ -31,18 +31,19 @@ def main():
     for j in range(4):
         digits(f"λ side. keptDefaults side 3 1000 3000 {j}", lambda side: made[side][1][j])
     for k in range(1, 4):
-        digits(f"threeTails 1000 3000 {k}", lambda side: tails(side, made[side][1])[k])
+        digits(f"tailOf 3 1000 3000 {k}", lambda side: tails(side, made[side][1])[k])
     digits("threeLoss 1000 3000 (lit< tt)", lambda side: loss(side, made[side][1], 4000, 1000, 3000))
     rows, printed = printed_rows(made[0][1]), printed_tails(made[0][1])
     for k in range(4):
-        line(f"(threeRow {k} ≡ {rows[k]})")
-        line(f"(threeTail {k} ≡ {printed[k]})")
+        line(f"(rowOf 3 1000 3000 {k} ≡ {rows[k]})")
+        line(f"(printedOf 3 1000 3000 {k} ≡ {printed[k]})")
     for k, shift in enumerate(shifts(made[0][1], steps(0, 3, 1000, 0)[1])):
         line(f"(threeShift {k} ≡ {f'pos {shift}' if shift >= 0 else f'negsuc {-shift - 1}'})")
-    others = [steps(side, 3, 500, 500)[1] for side in (0, 1)]
-    digits("threeTails 500 500 1", lambda side: tails(side, others[side])[1])
-    line(f"(printedTail 3 (keptDefaults Low 3 500 500) 3 ≡ {printed_tails(others[0])[3]})")
-    line(f"(printedTail 1 (keptDefaults Low 1 1000 3000) 1 ≡ {printed_tails(steps(0, 1, 1000, 3000)[1])[1]})")
+    for n, p, rho, k in [(3, 500, 500, 1), (2, 5000, 625, 2)]:
+        digits(f"tailOf {n} {p} {rho} {k}", lambda side: tails(side, steps(side, n, p, rho)[1])[k])
+    for n, p, rho, k in [(2, 5000, 625, 2), (2, 50, 0, 2), (3, 500, 500, 3)]:
+        line(f"(printedOf {n} {p} {rho} {k} ≡ {printed_tails(steps(0, n, p, rho)[1])[k]})")
+    line(f"(rowOf 3 500 500 2 ≡ {printed_rows(steps(0, 3, 500, 500)[1])[2]})")
 
 
 if __name__ == "__main__":

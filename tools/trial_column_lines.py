@@ -75,6 +75,12 @@ INPUTS = [
     # The bytes of crates/trial_column_lines/stdin, as the program reads them: 64 bytes, then the rest.
     INPUT[:64],
     INPUT[64:],
+    # Tails that are exactly half way between two units, the low side of the last two below that.
+    b"2 5000 625\n",
+    b"3 5000 5000\n",
+    b"6 5000 0\n",
+    b"2 50 0\n",
+    b"2 1150 0\n",
 ]
 
 

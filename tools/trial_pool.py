@@ -1,8 +1,10 @@
 """The lines that crates/trial_pool prints of a call, by tools/pools.py."""
+from fractions import Fraction
 from functools import lru_cache
 
-from pools import WHOLE, column_refusal, fill_refusal, loss, loss_answer, loss_refusal, printed_rows, row_refusal
-from pools import shift_refusal, shifts, steps
+from kept import value
+from pools import UNITS, WHOLE, column_refusal, fill_refusal, loss, loss_answer, loss_refusal, printed_rows, row_refusal
+from pools import shift_refusal, shifts, steps, tails
 from trial_support import SEED, checksum, following, line
 
 PLACES = 2150
@@ -117,6 +119,17 @@ def lists(call):
     for other in OTHERS:
         listed_over(call, other, 3, 1000, 3000)
     listed_over(call, OTHERS[0], 65, 1000, 3000)
+    # Tails that are exactly half way between two units on the low side.
+    for pool in [
+        (2, 1250, 0), (2, 2500, 2500), (2, 5000, 625), (2, 5000, 9375), (2, 8750, 0), (3, 2500, 0), (3, 5000, 5000),
+        (5, 2500, 0), (5, 7500, 0), (6, 5000, 0), (10, 5000, 0),
+    ]:
+        assert any((UNITS * value(x)).denominator == 2 for x in tails(0, made(*pool)[0][1]))
+        listed(call, *pool)
+    # The low side is below that: the tail at 2 is p^2.
+    for n, p, rho in [(2, 50, 0), (2, 1150, 0)]:
+        assert UNITS * Fraction(p, WHOLE)**2 % 1 == Fraction(1, 2) > UNITS * value(made(n, p, rho)[0][1][2]) % 1
+        listed(call, n, p, rho)
 
 
 def answer_words(n, p, rho, recovery, lower, upper, lengths, before=()):

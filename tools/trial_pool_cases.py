@@ -2,7 +2,11 @@
 
     python3 tools/trial_pool_cases.py > crates/trial_pool_cases/stdout
 """
-from trial_pool import OTHERS, STORES, fill, filled_row, lengths_of, listed, lists, longer, loss_over, row, tranche_loss
+from math import comb
+
+from kept import ZERO, plus, rounded, value
+from pools import in_units, printed_tails
+from trial_pool import OTHERS, STORES, fill, filled_row, lengths_of, listed, lists, longer, loss_over, made, row, tranche_loss
 
 LARGEST = 2**32 - 1
 
@@ -62,16 +66,33 @@ def losses():
     loss_over(OTHERS[0], 3, 1000, 3000, 4000, 3000, 3000)
 
 
+def added(numbers):
+    """The low sum of kept numbers, in their order."""
+    total = ZERO
+    for x in numbers:
+        total = plus(0, total, x)
+    return total
+
+
 def digits():
     """Pools whose last digits depend on how steps 4 and 5 round."""
-    # A tail added from k up would have another unit; in most, so would certainty less the other chances.
+    # A tail added from k up would have another unit, and so would certainty less the other chances.
     for pool in [
-        (5, 1900, 1500), (9, 5800, 4200), (10, 9500, 500), (12, 1150, 900), (16, 6500, 3600), (20, 7200, 5300),
-        (28, 6600, 200), (35, 5900, 2200), (48, 6000, 3000), (53, 400, 1000), (62, 3000, 6000), (64, 6500, 2200),
+        (5, 8200, 3850), (9, 8500, 5700), (10, 6250, 3400), (12, 5350, 5100), (16, 6100, 7350), (20, 7600, 5000),
+        (28, 6600, 2500), (35, 7300, 5900), (48, 8500, 1300), (53, 8500, 4700), (62, 7900, 4200), (64, 9600, 2800),
     ]:
+        low = made(*pool)[0][1]
+        printed = printed_tails(low)
+        assert any(
+            printed[k] != in_units(value(added(low[k:]))) and printed[k] != in_units(1 - value(added(low[:k])))
+            for k in range(1, len(low))
+        )
         listed("column", *pool)
     # The exact count of orders times the entry, rounded once, would give another unit, or change both bounds.
-    for pool in [(42, 1100, 1100), (47, 1900, 0), (54, 5600, 2000), (64, 5100, 200)]:
+    for pool in [(40, 3400, 1600), (47, 6700, 1300), (54, 4400, 4100), (64, 5800, 2500)]:
+        rows, low = made(*pool)[0]
+        once = [rounded(0, comb(pool[0], j) * s, 1, e) for j, (s, e) in enumerate(rows[-1])]
+        assert printed_tails(low) != printed_tails(once)
         listed("column", *pool)
     for case in [
         (37, 4000, 1000, 0, 3000, 6000), (39, 4500, 0, 6000, 300, 700), (41, 7000, 5000, 6000, 1000, 3000),

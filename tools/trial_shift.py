@@ -1,11 +1,12 @@
-"""Prints what crates/trial_shift must print, by tools/pools.py, and holds every shift list to the exact model.
+"""Prints what crates/trial_shift must print, by tools/pools.py, and holds every shift list, and the column of the pool, to the exact
+model.
 
     python3 tools/trial_shift.py > crates/trial_shift/stdout
 """
 from functools import lru_cache
 from math import comb
 
-from pools import UNITS, WHOLE, first, pool_grounds, shifts
+from pools import UNITS, WHOLE, first, pool_grounds, printed_rows, printed_tails, shifts
 from trial_pool import listed, lists, made, random_cases
 
 
@@ -24,6 +25,17 @@ def exact_tails(n, p, rho):
     return [sum(chances[k:]) for k in range(n + 1)], joint[0]
 
 
+def hold_column(n, p, rho):
+    """What is promised of the printed tails and of the column: at most half a unit above the exact tail and less than 0.8 below it;
+    rows that add to 100,000, none below zero, each less than 1.5 units off."""
+    printed, rows = printed_tails(made(n, p, rho)[0][1]), printed_rows(made(n, p, rho)[0][1])
+    tails, whole = exact_tails(n, p, rho)
+    tails = tails + [0]
+    assert printed[0] == UNITS and printed[n + 1] == 0 and sum(rows) == UNITS and min(rows) >= 0
+    assert all(-8 * whole < 10 * (printed[k] * whole - UNITS * tails[k]) <= 5 * whole for k in range(n + 2))
+    assert all(10 * abs(rows[k] * whole - UNITS * (tails[k] - tails[k + 1])) < 15 * whole for k in range(n + 1))
+
+
 def hold(n, p, rho):
     """What is promised of the list: 0 at 0, each entry less than 1.3 units off, the sum less than 1.3 * n."""
     entries = shifts(made(n, p, rho)[0][1], made(n, p, 0)[0][1])
@@ -36,6 +48,7 @@ def hold(n, p, rho):
 
 def shift_list(n, p, rho):
     if not first(pool_grounds(n, p, rho)):
+        hold_column(n, p, rho)
         hold(n, p, rho)
     listed("shifts", n, p, rho)
 

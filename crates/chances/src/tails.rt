@@ -33,12 +33,13 @@ pub fn tails(n: u32, chances: [Kept; PLACES], side: Side) -> [Kept; TAILS]
     tails
 }
 
-// A number of at most two in whole units, rounded down.
+// A number of at most two in whole units, to nearest, and up where it is half way: its half units, rounded down, plus one, halved.
 fn in_units(x: Kept) -> u32
     requires { ⌜ IsKept x ⌝ ∗ ⌜ AtMost (value x) (integer 2) ⌝ }
     ensures { λ r. ⌜ r ≡ inUnits x ⌝ }
 {
-    x.times_whole(UNITS, Side::Low) as u32
+    let halves = x.times_whole(2 * UNITS, Side::Low) as u32;
+    (halves + 1) / 2
 }
 
 // The printed tails at 0 to n + 1, from the tails of the low side. That at 0 is certainty.

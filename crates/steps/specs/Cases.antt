@@ -1,4 +1,4 @@
--- Pools of 3 assets and of one by the steps, digit for digit; for p = 1000 and ρ = 3000 the column that the scope paper prints, and the shift list. The digits were
+-- Pools of 3 assets and of 2 by the steps, digit for digit; for p = 1000 and ρ = 3000 the column that the scope paper prints, and the shift list. The digits were
 -- worked out in exact fractions by tools/steps_figures.py.
 -- Assumes nothing.
 use Prim.Native.Nat.{ℕ, _-_, _*_, _<_}
@@ -19,7 +19,7 @@ use Rattle.kept.specs.Binary64.{leastShown, belowShown, toBinary64}
 use Rattle.steps.specs.CorrelatedBinomial.Rows.{constant, keptConditional, keptJoint, keptPower, keptWeight, keptPassStep, keptRow}
 use Rattle.steps.specs.Counts.{keptCount}
 use Rattle.steps.specs.Chances.{keptTotal, keptChance, keptChances, keptTail, keptTerm, keptLoss}
-use Rattle.steps.specs.Column.{unitsOfCertainty, exactUnits, inUnits, printedTail, printedRow}
+use Rattle.steps.specs.Column.{unitsOfCertainty, exactUnits, half, inUnits, printedTail, printedRow}
 use Rattle.steps.specs.Shifts.{tailShift}
 use Rattle.steps.specs.CorrelatedBinomial.{keptDefaults}
 use Rattle.steps.specs.Loss.{untouched, faint, shown, keptLeastShown, raisedToShown, lossAnswer}
@@ -32,21 +32,20 @@ figure s n = record { significand = s; exponent = negsuc n }
 abbrev Digits : (Side → Kept) → (low high n : ℕ) → Type 0
 Digits x low high n = (x Low ≡ figure low n) × (x High ≡ figure high n)
 
--- The tail at k of three assets.
-abbrev threeTails : (p ρ k : ℕ) → (side : Side) → Kept
-threeTails p ρ k side = keptTail side 3 (keptDefaults side 3 p ρ) k
+-- The tail at k of n assets, what is printed for it, and the printed row.
+abbrev tailOf : (n p ρ k : ℕ) → (side : Side) → Kept
+tailOf n p ρ k side = keptTail side n (keptDefaults side n p ρ) k
 
--- With p = 1000 and ρ = 3000: a tranche with recovery 4000, the printed rows and tails.
+abbrev printedOf : (n p ρ k : ℕ) → ℕ
+printedOf n p ρ k = printedTail n (keptDefaults Low n p ρ) k
+
+abbrev rowOf : (n p ρ k : ℕ) → ℕ
+rowOf n p ρ k = printedRow n (keptDefaults Low n p ρ) k
+
+-- Of three assets with p = 1000 and ρ = 3000: a tranche with recovery 4000, and the printed tail at k less that without correlation.
 abbrev threeLoss : (A B : ℕ) → 0 < (B - A) * 3 → (side : Side) → Kept
 threeLoss A B wide side = keptLoss side 3 (keptDefaults side 3 1000 3000) 4000 A B wide
 
-abbrev threeRow : ℕ → ℕ
-threeRow k = printedRow 3 (keptDefaults Low 3 1000 3000) k
-
-abbrev threeTail : ℕ → ℕ
-threeTail k = printedTail 3 (keptDefaults Low 3 1000 3000) k
-
--- The printed tail at k less that without correlation.
 abbrev threeShift : ℕ → ℤ
 threeShift k = tailShift 3 (keptDefaults Low 3 1000 3000) (keptDefaults Low 3 1000 0) k
 
@@ -64,32 +63,36 @@ pub cases :
     × Digits (λ side. keptDefaults side 3 1000 3000 1) 2406023496 2406023504 33
     × Digits (λ side. keptDefaults side 3 1000 3000 2) 3363887100 3363887112 35
     × Digits (λ side. keptDefaults side 3 1000 3000 3) 2842649870 2842649879 36
-    × Digits (threeTails 1000 3000 1) 3602326504 3602326517 33
-    × Digits (threeTails 1000 3000 2) 2392606017 2392606026 34
-    × Digits (threeTails 1000 3000 3) 2842649870 2842649879 36
+    × Digits (tailOf 3 1000 3000 1) 3602326504 3602326517 33
+    × Digits (tailOf 3 1000 3000 2) 2392606017 2392606026 34
+    × Digits (tailOf 3 1000 3000 3) 2842649870 2842649879 36
     × Digits (threeLoss 1000 3000 (lit< tt)) 2399314755 2399314766 33
-    × (threeRow 0 ≡ 79032)
-    × (threeRow 1 ≡ 14005)
-    × (threeRow 2 ≡ 4895)
-    × (threeRow 3 ≡ 2068)
-    × (threeTail 0 ≡ 100000)
-    × (threeTail 1 ≡ 20968)
-    × (threeTail 2 ≡ 6963)
-    × (threeTail 3 ≡ 2068)
+    × (rowOf 3 1000 3000 0 ≡ 79032)
+    × (rowOf 3 1000 3000 1 ≡ 14005)
+    × (rowOf 3 1000 3000 2 ≡ 4895)
+    × (rowOf 3 1000 3000 3 ≡ 2068)
+    × (printedOf 3 1000 3000 0 ≡ 100000)
+    × (printedOf 3 1000 3000 1 ≡ 20968)
+    × (printedOf 3 1000 3000 2 ≡ 6963)
+    × (printedOf 3 1000 3000 3 ≡ 2068)
     × (threeShift 0 ≡ pos 0)
-    × (threeShift 1 ≡ negsuc 6130)
-    × (threeShift 2 ≡ pos 4164)
-    × (threeShift 3 ≡ pos 1969)
+    × (threeShift 1 ≡ negsuc 6131)
+    × (threeShift 2 ≡ pos 4163)
+    × (threeShift 3 ≡ pos 1968)
     -- Here the order of the sums shows in the last digit.
-    × Digits (threeTails 500 500 1) 2337669897 2337669905 33
+    × Digits (tailOf 3 500 500 1) 2337669897 2337669905 33
     -- A tranche that defaults reach, one that none reaches, and a high bound of 2^−870 with a low bound of zero.
     × (lossAnswer (threeLoss 1000 3000 (lit< tt) Low) (threeLoss 1000 3000 (lit< tt) High) ≡ shown (toBinary64 (figure 2399314755 33)) (toBinary64 (figure 2399314766 33)))
     × (lossAnswer (threeLoss 6000 10000 (lit< tt) Low) (threeLoss 6000 10000 (lit< tt) High) ≡ untouched)
     × (lossAnswer nought (figure 2147483648 900) ≡ faint (toBinary64 keptLeastShown))
-    -- A tail of 69.5 units is rounded down, and one of 10,000 units has less on the low side.
-    × (printedTail 3 (keptDefaults Low 3 500 500) 3 ≡ 69)
-    × (printedTail 1 (keptDefaults Low 1 1000 3000) 1 ≡ 9999)
-unfolding scaled nought unity increment carry round roundedProduct roundedSum roundedQuotient ofInteger ofBasisPoints size choose cut raise integer plus times divided whole complement over pass passed lossUnits constant keptConditional keptJoint keptPower keptWeight keptPassStep keptRow keptTotal keptCount keptChance keptChances keptTail keptTerm keptLoss unitsOfCertainty exactUnits wholeOf inUnits printedTail printedRow tailShift keptDefaults leastShown belowShown keptLeastShown raisedToShown lossAnswer
+    -- A tail of 17/64, 26,562.5 units, on both sides; one of 2.5 units, with less on the low side; one of 69.53 units.
+    × Digits (tailOf 2 5000 625 2) 2281701376 2281701376 32
+    × (printedOf 2 5000 625 2 ≡ 26563)
+    × (printedOf 2 50 0 2 ≡ 2)
+    × (printedOf 3 500 500 3 ≡ 70)
+    -- A row of 1,253.91 units, the difference of its tails.
+    × (rowOf 3 500 500 2 ≡ 1253)
+unfolding scaled nought unity increment carry round roundedProduct roundedSum roundedQuotient ofInteger ofBasisPoints size choose cut raise integer plus times divided whole complement over pass passed lossUnits constant keptConditional keptJoint keptPower keptWeight keptPassStep keptRow keptTotal keptCount keptChance keptChances keptTail keptTerm keptLoss unitsOfCertainty exactUnits half wholeOf inUnits printedTail printedRow tailShift keptDefaults leastShown belowShown keptLeastShown raisedToShown lossAnswer
 cases = (
   (refl, refl),
   (refl, refl),
@@ -122,6 +125,9 @@ cases = (
   refl,
   (refl, refl),
   refl,
+  refl,
+  refl,
+  (refl, refl),
   refl,
   refl,
   refl,

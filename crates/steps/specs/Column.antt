@@ -21,12 +21,16 @@ unitsOfCertainty = 100000
 unfoldable pub exactUnits : Fraction → Fraction
 exactUnits x = times (integer unitsOfCertainty) x
 
--- x in whole units, rounded down.
+-- One half.
+unfoldable pub half : Fraction
+half = record { num = 1; den = 2; positive = lit< tt }
+
+-- x in whole units, to nearest: its units and one half, rounded down, so that what is exactly half way goes up.
 unfoldable pub inUnits : Kept → ℕ
-inUnits x = wholeOf Low (exactUnits (value x))
+inUnits x = wholeOf Low (plus (exactUnits (value x)) half)
 
 module _ (n : ℕ) (c : ℕ → Kept) where
-  -- The printed tail at k: the low tail in whole units. That at 0 is certainty.
+  -- The printed tail at k: the low tail in whole units, to nearest. That at 0 is certainty.
   unfoldable pub printedTail : ℕ → ℕ
   printedTail zero = unitsOfCertainty
   printedTail (suc k) = inUnits (keptTail Low n c (suc k))
@@ -36,12 +40,13 @@ module _ (n : ℕ) (c : ℕ → Kept) where
   printedRow k = printedTail k - printedTail (suc k)
 
 -- What is used of a printed tail t, however it is rounded: it does not grow; in units it is at most `above` above the exact tail and less than `below` below
--- it; at 0 it is 100,000; past n it is zero.
+-- it; at 0 it is 100,000, and it is never above that; past n it is zero.
 pub record PrintsTails (above below : Fraction) (r : Chances) (t : ℕ → ℕ) : Type 0 where
   pub falls : (k : ℕ) → t (suc k) ≤ t k
   pub at-most : (k : ℕ) → AtMost (integer (t k)) (plus (exactUnits (tail r k)) above)
   pub more-than : (k : ℕ) → Less (exactUnits (tail r k)) (plus (integer (t k)) below)
   pub at-zero : t 0 ≡ unitsOfCertainty
+  pub at-most-certain : (k : ℕ) → t k ≤ unitsOfCertainty
   pub past : t (suc (r .assets)) ≡ 0
 
 -- x and y are less than `off` apart.

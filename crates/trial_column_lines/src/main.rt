@@ -123,6 +123,15 @@ fn inputs_read() {
     console::answer();
 }
 
+// Tails that are exactly half way between two units, the low side of the last two below that.
+fn half_way() {
+    show(55, b"2 5000 625\n");
+    show(56, b"3 5000 5000\n");
+    show(57, b"6 5000 0\n");
+    show(58, b"2 50 0\n");
+    show(59, b"2 1150 0\n");
+}
+
 fn main() {
     tables();
     refusals();
@@ -130,4 +139,5 @@ fn main() {
     long_inputs();
     longest_lines();
     inputs_read();
+    half_way();
 }

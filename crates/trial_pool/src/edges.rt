@@ -97,6 +97,23 @@ fn list_lengths(shifts: bool, assets: u32, exact: usize, short: usize, entries: 
     longer_lengths(listing(shifts, entries + 5), pool, exact);
 }
 
+// Tails that are exactly half way between two units on the low side; then two whose low side is below that.
+fn list_half_way(shifts: bool) {
+    list_ample(shifts, 2, 1_250, 0);
+    list_ample(shifts, 2, 2_500, 2_500);
+    list_ample(shifts, 2, 5_000, 625);
+    list_ample(shifts, 2, 5_000, 9_375);
+    list_ample(shifts, 2, 8_750, 0);
+    list_ample(shifts, 3, 2_500, 0);
+    list_ample(shifts, 3, 5_000, 5_000);
+    list_ample(shifts, 5, 2_500, 0);
+    list_ample(shifts, 5, 7_500, 0);
+    list_ample(shifts, 6, 5_000, 0);
+    list_ample(shifts, 10, 5_000, 0);
+    list_ample(shifts, 2, 50, 0);
+    list_ample(shifts, 2, 1_150, 0);
+}
+
 pub fn lists(shifts: bool) {
     list_pools(shifts);
     list_ends(shifts, 1);
@@ -108,4 +125,5 @@ pub fn lists(shifts: bool) {
     let list = listing(shifts, ROWS);
     over_others(list, pool_of(3, 1_000, 3_000));
     run_over(pool_of(10, 500, 250), list, pool_of(65, 1_000, 3_000));
+    list_half_way(shifts);
 }

@@ -218,24 +218,24 @@ fn column_ample(assets: u32, probability: u32, correlation: u32) {
 }
 
 fn digits() {
-    // A tail added from k up would have another unit; in most, so would certainty less the other chances.
-    column_ample(5, 1_900, 1_500);
-    column_ample(9, 5_800, 4_200);
-    column_ample(10, 9_500, 500);
-    column_ample(12, 1_150, 900);
-    column_ample(16, 6_500, 3_600);
-    column_ample(20, 7_200, 5_300);
-    column_ample(28, 6_600, 200);
-    column_ample(35, 5_900, 2_200);
-    column_ample(48, 6_000, 3_000);
-    column_ample(53, 400, 1_000);
-    column_ample(62, 3_000, 6_000);
-    column_ample(64, 6_500, 2_200);
+    // A tail added from k up would have another unit, and so would certainty less the other chances.
+    column_ample(5, 8_200, 3_850);
+    column_ample(9, 8_500, 5_700);
+    column_ample(10, 6_250, 3_400);
+    column_ample(12, 5_350, 5_100);
+    column_ample(16, 6_100, 7_350);
+    column_ample(20, 7_600, 5_000);
+    column_ample(28, 6_600, 2_500);
+    column_ample(35, 7_300, 5_900);
+    column_ample(48, 8_500, 1_300);
+    column_ample(53, 8_500, 4_700);
+    column_ample(62, 7_900, 4_200);
+    column_ample(64, 9_600, 2_800);
     // The exact count of orders times the entry, rounded once, would give another unit.
-    column_ample(42, 1_100, 1_100);
-    column_ample(47, 1_900, 0);
-    column_ample(54, 5_600, 2_000);
-    column_ample(64, 5_100, 200);
+    column_ample(40, 3_400, 1_600);
+    column_ample(47, 6_700, 1_300);
+    column_ample(54, 4_400, 4_100);
+    column_ample(64, 5_800, 2_500);
     // The same of losses: both bounds would change.
     loss_pool(37, 4_000, 1_000, 0, 3_000, 6_000);
     loss_pool(39, 4_500, 0, 6_000, 300, 700);

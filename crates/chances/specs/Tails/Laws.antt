@@ -1,6 +1,6 @@
 -- Tails, printed tails and rows, place by place.
 -- Assumes nothing.
-use Prim.Native.Nat.{ℕ, zero, suc, _+_, _-_, _^_, _≤_, _<_}
+use Prim.Native.Nat.{ℕ, zero, suc, _+_, _-_, _*_, _≤_, _<_}
 use mathlib.Core.Path.{_≡_, refl, _∙_}
 use mathlib.Core.List.{List}
 use native.Mathlib.Decide.{decLe}
@@ -13,9 +13,10 @@ use Rattle.kept.specs.declared.Kept.{Kept}
 use Rattle.kept.specs.declared.Side.{Side}
 use Rattle.kept.specs.declared.Side.the-variants.{Low}
 use Rattle.kept.specs.Rounding.{IsKept, Operand, value, nought, roundedSum}
+use Rattle.kept.specs.Whole.{wholeOf}
 use Rattle.kept.specs.Whole.Laws.{whole-at-most}
 use Rattle.steps.specs.Chances.{keptTotal, keptChances, keptTail}
-use Rattle.steps.specs.Column.{unitsOfCertainty, exactUnits, inUnits, printedTail, printedRow}
+use Rattle.steps.specs.Column.{unitsOfCertainty, inUnits, printedTail, printedRow}
 use Rattle.steps.specs.Exponents.Laws.{ranged-operand}
 use Rattle.steps.specs.Numbers.{is-chance, is-tail, of-chances, of-tails}
 use Rattle.working.specs.Working.{workingPlaces, Entries}
@@ -89,12 +90,10 @@ module _ {side : Side} {n i : ℕ} {chances : List Kept} {total : Kept} {tails :
 
 -- ---- printed tails
 
--- A number of at most two in units is at most 200,000.
-pub units-word : (x : Kept) → AtMost (value x) (integer 2) → inUnits x < 2 ^ 32
-unfolding inUnits exactUnits unitsOfCertainty times integer
-units-word x le =
-    let most : AtMost (exactUnits (value x)) (integer 200000) = record { cross = omega (arith, le .cross) } in
-    omega (arith, whole-at-most Low most)
+-- A number of at most two has at most 400,000 half units.
+pub halves-at-most : (x : Kept) → AtMost (value x) (integer 2) → wholeOf Low (times (integer (2 * unitsOfCertainty)) (value x)) ≤ 400000
+unfolding unitsOfCertainty times integer
+halves-at-most x le = whole-at-most Low (record { cross = omega (arith, le .cross) })
 
 -- The printed tails below k are stored.
 pub record PrintedBelow (n k : ℕ) (tails : List Kept) (printed : List ℕ) : Type 0 where

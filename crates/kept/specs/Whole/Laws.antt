@@ -17,7 +17,6 @@ use Rattle.kept.specs.declared.Kept.{Kept}
 use Rattle.kept.specs.declared.Side.{Side}
 use Rattle.kept.specs.declared.Side.the-variants.{Low, High}
 use Rattle.kept.specs.Rounding.{scaled, value, nought, Normal, IsKept, increment}
-use Rattle.kept.specs.Rounding.Laws.{increment-none}
 use Rattle.kept.specs.Whole.{wholeOf, IsWholeOf}
 
 -- ---- a fraction in whole numbers
@@ -61,9 +60,6 @@ one-division High {n = suc n} {d} x above below =
     let whole : suc n + (d - 1) ≡ n + d = omega (arith, x .positive) in
     let less : suc n - 1 ≡ n = omega arith in
     rw (above, below, whole, less) (sym (add-div-right n (rw below at (x .positive))))
-
-pub whole-nought : (side : Side) (x : Fraction) → x .num ≡ 0 → wholeOf side x ≡ 0
-whole-nought side x none = sym (one-division side x none refl) ∙ rw (increment-none side, sub-zero, zero-div, add-zero)
 
 -- ---- an exponent that is a number of binary places, negated
 

@@ -3,12 +3,11 @@
 use Prim.Native.Nat.{ℕ}
 use mathlib.Core.Path.{_≡_}
 use mathlib.Core.List.{List}
-use native.Mathlib.Nat.{le-of-eq, le-trans}
 use native.Mathlib.Omega.{arith}
 use lib.IntN.{ℤ}
 use Rattle.kept.specs.declared.Kept.{Kept}
 use Rattle.steps.specs.Column.{printedTail}
-use Rattle.steps.specs.Column.Laws.{falls-at-most, printed-at-zero}
+use Rattle.steps.specs.Column.Laws.{printed-at-most}
 use Rattle.steps.specs.Shifts.{tailShift}
 use Rattle.working.specs.Slices.{entriesAfter}
 use Rattle.working.specs.Slices.Laws.{after-same}
@@ -19,8 +18,7 @@ use Rattle.shift.specs.Differences.{InUnits, shiftAt}
 pub tails-in-units : {n : ℕ} {row : List Kept} {printed : List ℕ} → ColumnReady n row → RowTailsPrinted n row printed → InUnits n printed
 tails-in-units ready made = record {
   assets = ready .steps .assets;
-  at-most = λ k l.
-      rw (made .tails-are _ (ready .steps .entries) .entry 0 k (omega arith)) (le-trans (falls-at-most (ready .falls) k) (le-of-eq (printed-at-zero _ _)));
+  at-most = λ k l. rw (made .tails-are _ (ready .steps .entries) .entry 0 k (omega arith)) (printed-at-most _ _ (ready .falls) k);
 }
 
 -- Differences of printed tails are the shifts.

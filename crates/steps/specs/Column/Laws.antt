@@ -1,9 +1,10 @@
 -- The laws of the printed tail, and the column that follows from them alone, for a row of chances in general.
 -- Assumes nothing.
-use Prim.Native.Nat.{ℕ, zero, suc, _+_, _*_, _-_, _≤_, _<_}
+use Prim.Native.Nat.{ℕ, zero, suc, _+_, _*_, _-_, _/_, _≤_, _<_}
 use mathlib.Core.Path.{_≡_, refl, ap}
 use native.Mathlib.Decide.{decLe}
-use native.Mathlib.Nat.{le-refl, le-trans, lt-of-mul-lt-mul-right, mul-le-mul-right, mul-lt-mul-of-pos-right, mul-pos, mul-zero, sub-self}
+use native.Mathlib.Nat.{add-div-right, div-div-eq-div-mul, le-refl, le-trans, lt-of-mul-lt-mul-right, mul-le-mul-right, mul-lt-mul-of-pos-right, mul-pos, sub-self}
+use native.Mathlib.Numerals.{add-one}
 use native.Mathlib.Omega.{arith}
 use Rattle.model.specs.Number.{sum}
 use Rattle.model.specs.Fraction.{Fraction, Same, AtMost, Less, certainty, integer, plus, times}
@@ -15,22 +16,20 @@ use Rattle.kept.specs.declared.Side.{Side}
 use Rattle.kept.specs.declared.Side.the-variants.{Low}
 use Rattle.kept.specs.Rounding.{IsKept, scaled, value, nought}
 use Rattle.kept.specs.Rounding.Laws.{nought-kept, sum-is}
-use Rattle.kept.specs.Whole.Laws.{whole-is, whole-next, whole-mono, whole-nought}
+use Rattle.kept.specs.Whole.{wholeOf}
+use Rattle.kept.specs.Whole.Laws.{whole-is, whole-next, whole-mono}
 use Rattle.kept.specs.Accuracy.{precision}
 use Rattle.kept.specs.Accuracy.Laws.{precision-positive}
 use Rattle.steps.specs.Budgets.{Bounded, tailBudget}
 use Rattle.steps.specs.Chances.{keptTotal, keptTail}
 use Rattle.steps.specs.Chances.Laws.{tail-bound}
-use Rattle.steps.specs.Column.{unitsOfCertainty, inUnits, printedTail, printedRow, exactUnits, PrintsTails, Within, PrintsColumn}
+use Rattle.steps.specs.Column.{unitsOfCertainty, exactUnits, half, inUnits, printedTail, printedRow, PrintsTails, Within, PrintsColumn}
 
--- What does not grow is at most its first.
-pub falls-at-most : {t : ℕ → ℕ} → ((k : ℕ) → t (suc k) ≤ t k) → (k : ℕ) → t k ≤ t 0
-falls-at-most {t} falls zero = le-refl (t 0)
-falls-at-most falls (suc k) = le-trans (falls k) (falls-at-most falls k)
-
-pub printed-at-zero : (n : ℕ) (c : ℕ → Kept) → printedTail n c 0 ≡ unitsOfCertainty
+-- Printed tails that do not grow are never above 100,000.
+pub printed-at-most : (n : ℕ) (c : ℕ → Kept) → ((k : ℕ) → printedTail n c (suc k) ≤ printedTail n c k) → (k : ℕ) → printedTail n c k ≤ unitsOfCertainty
 unfolding printedTail
-printed-at-zero n c = refl
+printed-at-most n c falls zero = le-refl unitsOfCertainty
+printed-at-most n c falls (suc k) = le-trans (falls k) (printed-at-most n c falls k)
 
 -- ---- the column
 
@@ -91,22 +90,34 @@ units-certainty : Same (exactUnits certainty) (integer unitsOfCertainty)
 unfolding exactUnits times integer certainty
 units-certainty = omega arith
 
--- x in whole units is not above x; one unit more is above it; of a greater number it is no smaller.
-in-units-at-most : (x : Kept) → AtMost (integer (inUnits x)) (exactUnits (value x))
+-- x in whole units is at most half a unit above x and less than half a unit below it; of a greater number it is no smaller.
+in-units-at-most : (x : Kept) → AtMost (integer (inUnits x)) (plus (exactUnits (value x)) half)
 unfolding inUnits
-in-units-at-most x = whole-is Low (exactUnits (value x)) .on-side
+in-units-at-most x = whole-is Low (plus (exactUnits (value x)) half) .on-side
 
-in-units-next : (x : Kept) → Less (exactUnits (value x)) (integer (suc (inUnits x)))
+in-units-more-than : (x : Kept) → Less (exactUnits (value x)) (plus (integer (inUnits x)) half)
 unfolding inUnits
-in-units-next x = whole-next (exactUnits (value x))
+in-units-more-than x =
+    let next = whole-next (plus (exactUnits (value x)) half) in
+    unfold plus integer half in record { cross = omega (arith, next .cross) }
 
 in-units-order : (x y : Kept) → AtMost (value x) (value y) → inUnits x ≤ inUnits y
 unfolding inUnits
-in-units-order x y le = whole-mono Low (units-order le)
+in-units-order x y le = whole-mono Low (plus-mono (units-order le) at-most-refl)
 
-pub in-units-nought : inUnits nought ≡ 0
-unfolding inUnits exactUnits times integer nought scaled
-in-units-nought = whole-nought Low (exactUnits (value nought)) (mul-zero unitsOfCertainty)
+in-units-nought : inUnits nought ≡ 0
+unfolding inUnits exactUnits unitsOfCertainty plus half times integer nought scaled wholeOf
+in-units-nought = refl
+
+-- By half units: so many of them rounded down, and one more, halved.
+pub in-units-halves : (x : Kept) → inUnits x ≡ (wholeOf Low (times (integer (2 * unitsOfCertainty)) (value x)) + 1) / 2
+unfolding inUnits exactUnits plus half times integer wholeOf
+in-units-halves x =
+    let d : ℕ = 1 * value x .den in
+    let halves : ℕ = 2 * unitsOfCertainty * value x .num in
+    let same : unitsOfCertainty * value x .num * 2 + 1 * d ≡ halves + d = omega arith in
+    let positive : 0 < d = omega (arith, value x .positive) in
+    rw (same, ← div-div-eq-div-mul (halves + d) d 2, add-div-right halves positive, add-one (halves / d)) refl
 
 -- ---- low tails
 
@@ -138,35 +149,42 @@ module _ {b : ℕ} {r : Chances} {c : Side → ℕ → Kept} (bounded : Bounded 
   low-falls : (k : ℕ) → inUnits (low-tail (suc k)) ≤ inUnits (low-tail k)
   low-falls k = in-units-order (low-tail (suc k)) (low-tail k) (low-tail-falls (r .assets) (c Low) k)
 
-  low-at-most : (k : ℕ) → AtMost (integer (inUnits (low-tail k))) (exactUnits (tail r k))
-  low-at-most k = at-most-trans (in-units-at-most (low-tail k)) (units-order (tail-bound bounded Low k .order))
+  low-at-most : (k : ℕ) → AtMost (integer (inUnits (low-tail k))) (plus (exactUnits (tail r k)) half)
+  low-at-most k = at-most-trans (in-units-at-most (low-tail k)) (plus-mono (units-order (tail-bound bounded Low k .order)) at-most-refl)
 
-  low-at-most-one : (k : ℕ) → AtMost (integer (inUnits (low-tail k))) (integer unitsOfCertainty)
+  -- Half a unit above 100,000 is no whole number.
+  low-at-most-one : (k : ℕ) → inUnits (low-tail k) ≤ unitsOfCertainty
   low-at-most-one k =
-      at-most-trans (low-at-most k) (at-most-trans (units-order (tail-at-most-one r complete k)) (at-most-of-same units-certainty))
+      let exact = at-most-trans (units-order (tail-at-most-one r complete k)) (at-most-of-same units-certainty) in
+      let most = at-most-trans (low-at-most k) (plus-mono exact at-most-refl) in
+      unfold plus integer half in omega (arith, most .cross)
 
   -- The printed tails do not grow.
   pub printed-falls : (k : ℕ) → printedTail (r .assets) (c Low) (suc k) ≤ printedTail (r .assets) (c Low) k
   unfolding printedTail
-  printed-falls k = elim k [ zero ↦ unfold integer in omega (arith, low-at-most-one 1 .cross) | suc j ↦ low-falls (suc j) ]
+  printed-falls k = elim k [ zero ↦ low-at-most-one 1 | suc j ↦ low-falls (suc j) ]
 
-  -- The tails of low chances that are b away, rounded down: one unit is lost by that, and 100,000 × budget / 2^31 by the low tail.
-  pub printed-tails : {below : Fraction} → (precision + unitsOfCertainty * tailBudget (r .assets) b) * below .den ≤ below .num * precision
-      → PrintsTails (integer 0) below r (printedTail (r .assets) (c Low))
+  -- The tails of low chances that are b away, to nearest: less than half a unit is lost by that, and 100,000 × budget / 2^31 units by the low tail.
+  pub printed-tails : {below : Fraction} → (precision + 2 * (unitsOfCertainty * tailBudget (r .assets) b)) * below .den ≤ 2 * (below .num * precision)
+      → PrintsTails half below r (printedTail (r .assets) (c Low))
   unfolding printedTail
   printed-tails {below} slack = record {
     falls = printed-falls;
-    at-most = λ k. at-most-trans (elim k [ zero ↦ at-zero | suc j ↦ low-at-most (suc j) ]) (plus-more (exactUnits (tail r k)) (integer 0));
+    at-most = λ k. elim k [ zero ↦ at-most-trans at-zero (plus-more (exactUnits (tail r 0)) half) | suc j ↦ low-at-most (suc j) ];
     more-than = λ k. elim k [
-      | zero ↦ less-at-most-trans (more-than 0) (plus-mono (low-at-most-one 0) at-most-refl)
+      | zero ↦ less-at-most-trans (more-than 0) (plus-mono as-certain at-most-refl)
       | suc j ↦ more-than (suc j)
     ];
-    at-zero = printed-at-zero (r .assets) (c Low);
+    at-zero = refl;
+    at-most-certain = printed-at-most (r .assets) (c Low) printed-falls;
     past = unfold keptTail keptTotal in (rw sub-self in-units-nought);
   }
     where
       at-zero : AtMost (integer unitsOfCertainty) (exactUnits (tail r 0))
       at-zero = at-most-trans (at-most-of-same (same-sym units-certainty)) (units-order (at-most-of-same (same-sym (tail-at-zero r complete))))
+
+      as-certain : AtMost (integer (inUnits (low-tail 0))) (integer unitsOfCertainty)
+      as-certain = unfold integer in omega (arith, low-at-most-one 0)
 
       more-than : (k : ℕ) → Less (exactUnits (tail r k)) (plus (integer (inUnits (low-tail k))) below)
       more-than k =
@@ -177,15 +195,15 @@ module _ {b : ℕ} {r : Chances} {c : Side → ℕ → Kept} (bounded : Bounded 
           let v : Fraction = tail r k in
           let d : ℕ = value x .den in
           let parts : B ≤ B - N + N = omega arith in
-          unfold exactUnits times plus integer certainty in
-          let exact : U * v .num * B < (inUnits x * B + B + U * N) * v .den =
+          unfold exactUnits times plus integer half certainty in
+          let exact : 2 * (U * v .num) * B < (2 * (inUnits x * B) + B + 2 * (U * N)) * v .den =
           lt-of-mul-lt-mul-right d
           (omega (
             arith,
-            mul-lt-mul-of-pos-right (in-units-next x .cross) (mul-pos (v .positive) precision-positive),
-            mul-le-mul-right U (tail-bound bounded Low k .near .cross),
-            mul-le-mul-right (U * d * N) (tail-at-most-one r complete k .cross),
-            mul-le-mul-right (U * v .num * d) parts,
+            mul-lt-mul-of-pos-right (in-units-more-than x .cross) (mul-pos (v .positive) precision-positive),
+            mul-le-mul-right (2 * U) (tail-bound bounded Low k .near .cross),
+            mul-le-mul-right (2 * U * d * N) (tail-at-most-one r complete k .cross),
+            mul-le-mul-right (2 * U * v .num * d) parts,
           )) in
           let raised = mul-lt-mul-of-pos-right exact (below .positive) in
           record { cross = lt-of-mul-lt-mul-right B (omega (arith, mul-le-mul-right (v .den) slack)) }

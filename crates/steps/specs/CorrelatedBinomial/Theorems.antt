@@ -30,7 +30,7 @@ use Rattle.steps.specs.CorrelatedBinomial.Rows.Laws.{entry-bound}
 use Rattle.steps.specs.Chances.{keptLoss}
 use Rattle.steps.specs.Enclosure.{Enclosed}
 use Rattle.steps.specs.Enclosure.Laws.{bound-enclosed}
-use Rattle.steps.specs.Column.{unitsOfCertainty, printedTail, printedRow, tenths, PrintsTails, PrintsColumn}
+use Rattle.steps.specs.Column.{unitsOfCertainty, half, printedTail, printedRow, tenths, PrintsTails, PrintsColumn}
 use Rattle.steps.specs.Column.Laws.{printed-column, column-weaken}
 use Rattle.steps.specs.Shifts.{tailShift}
 use Rattle.steps.specs.Exponents.{Ranged}
@@ -101,14 +101,14 @@ module _ {n p ρ : ℕ} where
     unfolding defaults keptDefaults poolBudget defaultsBudget
     steps-hold = record { enclosed = row-enclosed within pool-budget; ranged = pool-ranged range (few-assets (le-trans (range .assets) pool-works)) }
 
-    -- The printed tails are not above the exact ones and less than 1.3 units below them.
-    pub printed : PrintsTails (integer 0) (tenths 13) (defaults n p ρ) (printedTail n (keptDefaults Low n p ρ))
+    -- The printed tails are at most half a unit above the exact ones and less than 0.8 units below them.
+    pub printed : PrintsTails half (tenths 8) (defaults n p ρ) (printedTail n (keptDefaults Low n p ρ))
     unfolding defaults keptDefaults tailBudget chanceBudget countBudget rowBudget tenths precision unitsOfCertainty largestPool triangle
     printed = row-tails within (omega (arith, triangle-mono (range .assets)))
 
     -- The printed rows add to 100,000, none is below zero, and each is less than 1.5 units from the exact chance.
     pub column : PrintsColumn (tenths (tenthsFor n)) (defaults n p ρ) (printedTail n (keptDefaults Low n p ρ)) (printedRow n (keptDefaults Low n p ρ))
-    unfolding defaults plus integer tenths tenthsFor
+    unfolding defaults plus half tenths tenthsFor
     column = column-weaken (record { cross = lit≤ tt }) (printed-column (keptDefaults Low n p ρ) printed)
 
     -- What holds of the loss that is answered.
@@ -122,7 +122,7 @@ module _ {n p ρ : ℕ} where
 pub shifts : {n p ρ : ℕ} → InRange largestPool n p ρ → 0 < n → {shifts : List ℤ}
     → ((k : ℕ) → k ≤ n → getD shifts k (pos 0) ≡ tailShift n (keptDefaults Low n p ρ) (keptDefaults Low n p 0) k)
     → HoldsShifts (tenths shiftTenths) (defaults n p ρ) (defaults n p 0) (keptDefaults Low n p ρ) (keptDefaults Low n p 0) shifts
-unfolding defaults plus integer tenths shiftTenths
+unfolding defaults plus half tenths shiftTenths
 shifts {n} {p} {ρ} range some stand =
     let base = range-uncorrelated range in
     let total = defaults-tails-total p ρ (range .probability) (range .correlation) n in

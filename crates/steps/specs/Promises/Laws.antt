@@ -8,7 +8,7 @@ use native.Mathlib.Nat.{le-refl, mul-le-mul-right}
 use lib.ListN.{getD}
 use lib.IntN.{ℤ, pos, +ℤ-invr}
 use Rattle.model.specs.Number.Laws.{sum-cong}
-use Rattle.model.specs.Fraction.{Fraction, Same, AtMost, integer, plus, whole}
+use Rattle.model.specs.Fraction.{Fraction, Same, AtMost, plus, whole}
 use Rattle.model.specs.Fraction.Laws.{at-most-refl, less-at-most-trans, times-mono}
 use Rattle.model.specs.Chances.{Chances, tailsTotal}
 use Rattle.kept.specs.declared.Kept.{Kept}
@@ -19,7 +19,7 @@ use Rattle.kept.specs.Accuracy.Laws.{bound-same, budget-for-weaken}
 use Rattle.steps.specs.Budgets.{chanceBudget, tailBudget, lossBudget, Bounded, WithinBudget}
 use Rattle.steps.specs.Chances.{keptChances, keptLoss}
 use Rattle.steps.specs.Chances.Laws.{chance-bound, chance-enclosed, tail-enclosed, loss-enclosed}
-use Rattle.steps.specs.Column.{unitsOfCertainty, printedTail, printedRow, PrintsTails, PrintsColumn}
+use Rattle.steps.specs.Column.{unitsOfCertainty, half, printedTail, printedRow, PrintsTails, PrintsColumn}
 use Rattle.steps.specs.Column.Laws.{within-weaken, printed-tails}
 use Rattle.steps.specs.Shifts.{tailShift}
 use Rattle.steps.specs.Shifts.Laws.{tails-near, tails-between, tails-total-near}
@@ -55,8 +55,8 @@ module _ {b m : ℕ} {r : Chances} {v : ℕ → Fraction} {entry : Side → ℕ 
 
   -- Printed tails of the low side, less than `below` under the exact ones.
   pub row-tails : {below : Fraction}
-      → (precision + unitsOfCertainty * tailBudget (r .assets) (chanceBudget (r .assets) b)) * below .den ≤ below .num * precision
-      → PrintsTails (integer 0) below r (printedTail (r .assets) (kept Low))
+      → (precision + 2 * (unitsOfCertainty * tailBudget (r .assets) (chanceBudget (r .assets) b))) * below .den ≤ 2 * (below .num * precision)
+      → PrintsTails half below r (printedTail (r .assets) (kept Low))
   row-tails slack = printed-tails chances-bounded (within .complete) slack
 
   -- Where two numbers at the budget of a loss are at most one part in g apart, all bounds are.

@@ -11,7 +11,6 @@ use Rattle.model.specs.Fraction.{Fraction, Same, AtMost, Less, integer, plus, t
 use Rattle.model.specs.Fraction.Laws.{at-most-of-same, at-most-refl, less-at-most-trans, plus-mono, plus-less, plus-cancel, times-same, same-refl, same-sym}
 use Rattle.model.specs.Chances.{Chances, share, tailNumerator, tail, tailsTotal}
 use Rattle.steps.specs.Column.{unitsOfCertainty, exactUnits, PrintsTails, Within}
-use Rattle.steps.specs.Column.Laws.{falls-at-most}
 
 -- ---- numbers that are off by a little
 
@@ -82,7 +81,7 @@ module _ {above below : Fraction} {r s : Chances} {t u : ℕ → ℕ} (p : Print
   pub tails-between : (k : ℕ) → natAbs (pos (t k) -ℤ pos (u k)) ≤ unitsOfCertainty
   tails-between k =
       rw (difference-size (t k) (u k))
-      (omega (arith, falls-at-most (p .falls) k, p .at-zero, falls-at-most (q .falls) k, q .at-zero))
+      (omega (arith, p .at-most-certain k, q .at-most-certain k))
 
   -- The differences at 1 to n add to less than n times that.
   pub tails-total-near : s .assets ≡ r .assets → Same (tailsTotal r) (tailsTotal s) → 0 < r .assets
