@@ -2,8 +2,8 @@
 -- its part; that of a call of a crate above this one, which has its demands here, is shown there.
 -- 1. Every input is answered or refused by one number, and a refused call leaves its slices as they were.
 -- 2. Two bounds that the rounding steps make lie round every exact value of the model.
--- 3. The two are at most one part in 100,000 apart; the rows of a column add to exactly 100,000 units, and each is less than 1.5 units off; the entries of a shift
--- list past the first add to less than 1.3 units for each asset, and each is less than 1.3 units off.
+-- 3. The two are at most one part in 100,000 apart; the rows of a column are differences of tails rounded to nearest, add to exactly 100,000 units, and each is less
+-- than 1.5 units off; the entries of a shift list past the first add to less than 1.3 units for each asset, and each is less than 1.3 units off.
 -- Assumes nothing.
 use Prim.Native.Nat.{ℕ, suc, _+_, _-_, _*_, _/_, _≤_, _<_}
 use mathlib.Core.Path.{_≡_}
@@ -61,13 +61,25 @@ pub record BoundDemands (low high : Kept) (exact : Fraction) : Type 0 where
   pub two : Demand2 low high exact
   pub three : Demand3 low high exact
 
+-- 0.5
+unfoldable pub oneHalf : Fraction
+oneHalf = record { num = 1; den = 2; positive = lit< tt }
+
+-- What is printed of the tails of the low side: 100,000 at 0; at each other place 100,000 times the tail and one half, rounded down.
+pub record PrintedDemands (low : ℕ → Kept) (printed : ℕ → ℕ) : Type 0 where
+  pub at-zero : printed 0 ≡ 100000
+  pub not-above : (k : ℕ) → AtMost (integer (printed (suc k))) (plus (times (integer 100000) (value (low (suc k)))) oneHalf)
+  pub next-above : (k : ℕ) → Less (plus (times (integer 100000) (value (low (suc k)))) oneHalf) (integer (suc (printed (suc k))))
+
 -- 1.5
 unfoldable pub oneAndAHalf : Fraction
 oneAndAHalf = record { num = 3; den = 2; positive = lit< tt }
 
--- Demand 3, of a column: rows 0 to n, as they stand in the slice, add to exactly 100,000, and row k is less than 1.5 from 100,000 times the exact chance of
--- k defaults.
-pub record Demand3Column (n : ℕ) (exact : ℕ → Fraction) (units : List ℕ) : Type 0 where
+-- Demand 3, of a column: row k, as it stands in the slice, is what the printed tail at k has more than the next. Rows 0 to n add to exactly 100,000, and row k is
+-- less than 1.5 from 100,000 times the exact chance of k defaults.
+pub record Demand3Column (n : ℕ) (low : ℕ → Kept) (printed : ℕ → ℕ) (exact : ℕ → Fraction) (units : List ℕ) : Type 0 where
+  pub printed-is : PrintedDemands low printed
+  pub difference : (k : ℕ) → k ≤ n → getD units k 0 + printed (suc k) ≡ printed k
   pub total : sum (suc n) (λ k. getD units k 0) ≡ 100000
   pub not-above : (k : ℕ) → k ≤ n → Less (integer (getD units k 0)) (plus (times (integer 100000) (exact k)) oneAndAHalf)
   pub not-below : (k : ℕ) → k ≤ n → Less (times (integer 100000) (exact k)) (plus (integer (getD units k 0)) oneAndAHalf)
@@ -78,7 +90,9 @@ oneAndThreeTenths = record { num = 13; den = 10; positive = lit< tt }
 
 -- Demand 3, of a shift list: entry k, as it stands in the slice, is the printed tail at k less that at another correlation. The entry at 0 is 0, and each is from
 -- −100,000 to 100,000. Each is less than 1.3 from 100,000 times what the exact tails differ by. Entries 1 to n add to less than 1.3 × n, above zero and below it.
-pub record Demand3Shifts (n : ℕ) (printed other : ℕ → ℕ) (exact exactOther : ℕ → Fraction) (shifts : List ℤ) : Type 0 where
+pub record Demand3Shifts (n : ℕ) (low lowOther : ℕ → Kept) (printed other : ℕ → ℕ) (exact exactOther : ℕ → Fraction) (shifts : List ℤ) : Type 0 where
+  pub printed-is : PrintedDemands low printed
+  pub other-is : PrintedDemands lowOther other
   pub entry : (k : ℕ) → k ≤ n → getD shifts k (pos 0) ≡ pos (printed k) -ℤ pos (other k)
   pub at-zero : getD shifts 0 (pos 0) ≡ pos 0
   pub between : (k : ℕ) → k ≤ n → natAbs (getD shifts k (pos 0)) ≤ 100000
@@ -206,15 +220,20 @@ module _ (pool : Pool) where
     pub store : StoreDemands before after refusal
     pub later-entries : refusal ≡ 0 → drop (n + 1) new ≡ drop (n + 1) old
 
+  -- The tails of the low side that step 5 makes, at a correlation.
+  abbrev lowTails : ℕ → ℕ → Kept
+  lowTails ρ k = keptTail Low n (keptDefaults Low n p ρ) k
+
   pub record ColumnDemands (before after : Slices) (units units′ : List ℕ) (refusal : ℕ) : Type 0 where
     pub leaves : EntriesDemands (columnGrounds 64 n p ρ (lengthsOf before) (length units)) before after units units′ refusal
-    pub column : refusal ≡ 0 → Demand3Column n (chance (defaults n p ρ)) units′
+    pub column : refusal ≡ 0 → Demand3Column n (lowTails ρ) (printedTail n (keptDefaults Low n p ρ)) (chance (defaults n p ρ)) units′
 
   -- The other correlation is 0.
   pub record ShiftDemands (before after : Slices) (shifts shifts′ : List ℤ) (refusal : ℕ) : Type 0 where
     pub leaves : EntriesDemands (shiftGrounds 64 n p ρ (lengthsOf before) (length shifts)) before after shifts shifts′ refusal
     pub list : refusal ≡ 0
-        → Demand3Shifts n (printedTail n (keptDefaults Low n p ρ)) (printedTail n (keptDefaults Low n p 0)) (tail (defaults n p ρ)) (tail (defaults n p 0)) shifts′
+        → Demand3Shifts n (lowTails ρ) (lowTails 0) (printedTail n (keptDefaults Low n p ρ)) (printedTail n (keptDefaults Low n p 0))
+        (tail (defaults n p ρ)) (tail (defaults n p 0)) shifts′
 
   module _ (tranche : Tranche) where
     abbrev R : ℕ

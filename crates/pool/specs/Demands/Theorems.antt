@@ -19,15 +19,15 @@ use Rattle.kept.specs.declared.Side.the-variants.{Low, High}
 use Rattle.kept.specs.Rounding.{value}
 use Rattle.kept.specs.Binary64.{leastShown}
 use Rattle.steps.specs.CorrelatedBinomial.Rows.{keptRow}
-use Rattle.steps.specs.Column.{unitsOfCertainty, exactUnits, tenths}
-use Rattle.steps.specs.Column.Laws.{within-weaken}
+use Rattle.steps.specs.Column.{unitsOfCertainty, exactUnits, half, printedTail, tenths}
+use Rattle.steps.specs.Column.Laws.{in-units-at-most, in-units-next, within-weaken}
 use Rattle.steps.specs.Enclosure.{Enclosed}
 use Rattle.steps.specs.Loss.{raisedToShown, Says}
 use Rattle.steps.specs.Loss.Laws.{raised-greater, least-shown-value}
 use Rattle.steps.specs.CorrelatedBinomial.{keptDefaults}
 use Rattle.steps.specs.Inputs.{largestPool, distanceFor, tenthsFor}
 use Rattle.steps.specs.Promises.{HoldsColumn}
-use Rattle.steps.specs.Chances.{keptLoss}
+use Rattle.steps.specs.Chances.{keptTail, keptLoss}
 use Rattle.chances.specs.Loss.{lossOf}
 use Rattle.working.specs.Slices.{overwritten, entriesAfter, numberAt}
 use Rattle.working.specs.Slices.Laws.{overwritten-later, entries-kept, entries-later}
@@ -45,7 +45,7 @@ use Rattle.store.specs.Stores.{Store, lengths, sideOf, place, storeAfter}
 use Rattle.store.specs.Calls.{LeavesStore, Fills, fillRefusal, HandsRow, rowRefusal}
 use Rattle.pool.specs.Answers.{replyOf, refusalOf}
 use Rattle.pool.specs.Calls.{columnRefusal, Prints, lossRefusal, Wide, PoolHoldsLoss, AnswersLoss, Replies}
-use Rattle.pool.specs.Demands.{BoundDemands, oneAndAHalf, Demand3Column, Slices, significandsOn, numberOn, from, TableDemands, StoreDemands, edge, LossDemands, AnswerDemands, exactLoss, refusalIn}
+use Rattle.pool.specs.Demands.{BoundDemands, oneHalf, PrintedDemands, oneAndAHalf, Demand3Column, Slices, significandsOn, numberOn, from, TableDemands, StoreDemands, edge, LossDemands, AnswerDemands, exactLoss, refusalIn}
 use Rattle.pool.specs.Demands.{FillDemands, RowDemands, EntriesDemands, ColumnDemands, TrancheDemands}
 
 -- The four slices of a store.
@@ -148,11 +148,22 @@ row-meets {n} {k} {significands} hands is = record {
 
 -- ---- the column
 
+-- The printed tails of any chances of the low side.
+pub printed-meet : (n : ℕ) (low : ℕ → Kept) → PrintedDemands (keptTail Low n low) (printedTail n low)
+unfolding unitsOfCertainty exactUnits half oneHalf printedTail
+printed-meet n low = record {
+  at-zero = refl;
+  not-above = λ k. in-units-at-most (keptTail Low n low (suc k));
+  next-above = λ k. in-units-next (keptTail Low n low (suc k));
+}
+
 -- The column of any row whose offset is 1.5 units at most.
-rows-meet : {off : Fraction} {r : Chances} {low : ℕ → Kept} {units : List ℕ} → AtMost off oneAndAHalf → HoldsColumn off r low units
-    → Demand3Column (r .assets) (chance r) units
+rows-meet : {off : Fraction} {r : Chances} (low : ℕ → Kept) {units : List ℕ} → AtMost off oneAndAHalf → HoldsColumn off r low units
+    → Demand3Column (r .assets) (keptTail Low (r .assets) low) (printedTail (r .assets) low) (chance r) units
 unfolding unitsOfCertainty exactUnits
-rows-meet most holds = record {
+rows-meet {r} low most holds = record {
+  printed-is = printed-meet (r .assets) low;
+  difference = holds .difference;
   total = holds .total;
   not-above = λ k l. within-weaken most (holds .near k l) .not-above;
   not-below = λ k l. within-weaken most (holds .near k l) .not-below;
@@ -163,7 +174,7 @@ pub column-meets : {pool : Pool} {before after : Store} {units units′ : List �
 unfolding columnRefusal lengths largestPool tenths tenthsFor oneAndAHalf defaults
 column-meets prints = record {
   leaves = entries-meet (prints .leaves) _ _ (prints .refusal-is) (prints .units-are);
-  column = λ none. rows-meet (record { cross = lit≤ tt }) (prints .holds-column none);
+  column = λ none. rows-meet _ (record { cross = lit≤ tt }) (prints .holds-column none);
 }
 
 -- ---- the loss

@@ -9,6 +9,8 @@ use Rattle.model.specs.Fraction.Laws.{at-most-refl, less-at-most-trans, times-m
 use Rattle.model.specs.Chances.{Chances, tail}
 use Rattle.model.specs.CorrelatedBinomial.{defaults}
 use Rattle.kept.specs.declared.Kept.{Kept}
+use Rattle.kept.specs.declared.Side.the-variants.{Low}
+use Rattle.steps.specs.Chances.{keptTail}
 use Rattle.steps.specs.Column.{unitsOfCertainty, exactUnits, tenths, printedTail}
 use Rattle.steps.specs.Column.Laws.{within-weaken}
 use Rattle.steps.specs.Shifts.{tailShift}
@@ -17,14 +19,17 @@ use Rattle.steps.specs.Promises.{HoldsShifts}
 use Rattle.store.specs.declared.Pool.{Pool}
 use Rattle.store.specs.Stores.{Store, lengths}
 use Rattle.pool.specs.Demands.{oneAndThreeTenths, Demand3Shifts, ShiftDemands}
-use Rattle.pool.specs.Demands.Theorems.{slices, entries-meet}
+use Rattle.pool.specs.Demands.Theorems.{slices, entries-meet, printed-meet}
 use Rattle.shift.specs.Calls.{shiftRefusal, ListsShifts}
 
 -- A shift list of any two rows whose offset is 1.3 units at most.
-list-meets : {off : Fraction} {r s : Chances} {low base : ℕ → Kept} {shifts : List ℤ} → AtMost off oneAndThreeTenths → HoldsShifts off r s low base shifts
-    → Demand3Shifts (r .assets) (printedTail (r .assets) low) (printedTail (r .assets) base) (tail r) (tail s) shifts
+list-meets : {off : Fraction} {r s : Chances} (low base : ℕ → Kept) {shifts : List ℤ} → AtMost off oneAndThreeTenths → HoldsShifts off r s low base shifts
+    → Demand3Shifts (r .assets) (keptTail Low (r .assets) low) (keptTail Low (r .assets) base) (printedTail (r .assets) low) (printedTail (r .assets) base)
+    (tail r) (tail s) shifts
 unfolding unitsOfCertainty exactUnits tailShift
-list-meets most holds = record {
+list-meets {r} low base most holds = record {
+  printed-is = printed-meet (r .assets) low;
+  other-is = printed-meet (r .assets) base;
   entry = holds .entry;
   at-zero = holds .at-zero;
   between = holds .between;
@@ -38,5 +43,5 @@ pub shift-meets : {pool : Pool} {before after : Store} {shifts shifts′ : List 
 unfolding shiftRefusal lengths largestPool tenths shiftTenths oneAndThreeTenths defaults
 shift-meets lists = record {
   leaves = entries-meet (lists .leaves) _ _ (lists .refusal-is) (lists .shifts-are);
-  list = λ none. list-meets (record { cross = lit≤ tt }) (lists .holds-shifts none);
+  list = λ none. list-meets _ _ (record { cross = lit≤ tt }) (lists .holds-shifts none);
 }

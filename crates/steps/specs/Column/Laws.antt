@@ -90,17 +90,21 @@ units-certainty : Same (exactUnits certainty) (integer unitsOfCertainty)
 unfolding exactUnits times integer certainty
 units-certainty = omega arith
 
--- x in whole units is at most half a unit above x and less than half a unit below it; of a greater number it is no smaller.
-in-units-at-most : (x : Kept) → AtMost (integer (inUnits x)) (plus (exactUnits (value x)) half)
+-- x in whole units is not above x in units and one half, and one unit more is above that.
+pub in-units-at-most : (x : Kept) → AtMost (integer (inUnits x)) (plus (exactUnits (value x)) half)
 unfolding inUnits
 in-units-at-most x = whole-is Low (plus (exactUnits (value x)) half) .on-side
 
-in-units-more-than : (x : Kept) → Less (exactUnits (value x)) (plus (integer (inUnits x)) half)
+pub in-units-next : (x : Kept) → Less (plus (exactUnits (value x)) half) (integer (suc (inUnits x)))
 unfolding inUnits
-in-units-more-than x =
-    let next = whole-next (plus (exactUnits (value x)) half) in
-    unfold plus integer half in record { cross = omega (arith, next .cross) }
+in-units-next x = whole-next (plus (exactUnits (value x)) half)
 
+-- It is less than half a unit below x.
+in-units-more-than : (x : Kept) → Less (exactUnits (value x)) (plus (integer (inUnits x)) half)
+unfolding plus integer half
+in-units-more-than x = record { cross = omega (arith, in-units-next x .cross) }
+
+-- Of a greater number it is no smaller.
 in-units-order : (x y : Kept) → AtMost (value x) (value y) → inUnits x ≤ inUnits y
 unfolding inUnits
 in-units-order x y le = whole-mono Low (plus-mono (units-order le) at-most-refl)
