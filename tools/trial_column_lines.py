@@ -7,6 +7,7 @@ worked out by tools/pools.py.
 import re
 import sys
 
+from exact import hold_column
 from pools import first, pool_grounds, printed_rows, printed_tails, steps
 
 # The bytes of crates/trial_column_lines/stdin.
@@ -85,6 +86,7 @@ INPUTS = [
 
 
 def table(n, p, rho):
+    hold_column(n, p, rho)
     chances = steps(0, n, p, rho)[1]
     lines = zip(range(n + 1), printed_rows(chances), printed_tails(chances))
     return ["defaults units tail"] + [f"{k} {row} {tail}" for k, row, tail in lines]

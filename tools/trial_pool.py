@@ -1,7 +1,9 @@
-"""The lines that crates/trial_pool prints of a call, by tools/pools.py."""
+"""The lines that crates/trial_pool prints of a call, by tools/pools.py. Every column and every shift list is held to the exact
+model."""
 from fractions import Fraction
 from functools import lru_cache
 
+from exact import hold_column, hold_shifts
 from kept import value
 from pools import UNITS, WHOLE, column_refusal, fill_refusal, loss, loss_answer, loss_refusal, printed_rows, row_refusal
 from pools import shift_refusal, shifts, steps, tails
@@ -66,6 +68,8 @@ def column_words(n, p, rho, lengths, units, before=()):
     refusal = column_refusal(n, p, rho, lengths, units)
     filled = [] if refusal else made(n, p, rho)
     rows = [] if refusal else printed_rows(filled[0][1])
+    if not refusal:
+        hold_column(n, p, rho)
     return ["refusal", refusal, *rows, "rows", array_word(rows, MARK, ROWS), *store_words(filled, before)]
 
 
@@ -73,6 +77,8 @@ def shift_words(n, p, rho, lengths, entries, before=()):
     refusal = shift_refusal(n, p, rho, lengths, entries)
     filled = [] if refusal else made(n, p, rho)
     listed = [] if refusal else shifts(filled[0][1], made(n, p, 0)[0][1])
+    if not refusal:
+        hold_shifts(n, p, rho)
     return ["refusal", refusal, *listed, "list", array_word(listed, INTEGER_MARK, ROWS), *store_words(filled, before)]
 
 

@@ -1,66 +1,18 @@
-"""Prints what crates/trial_shift must print, by tools/pools.py, and holds every shift list, and the column of the pool, to the exact
-model.
+"""Prints what crates/trial_shift must print, by tools/pools.py.
 
     python3 tools/trial_shift.py > crates/trial_shift/stdout
 """
-from functools import lru_cache
-from math import comb
-
-from pools import UNITS, WHOLE, first, pool_grounds, printed_rows, printed_tails, shifts
-from trial_pool import listed, lists, made, random_cases
-
-
-@lru_cache(maxsize=None)
-def exact_tails(n, p, rho):
-    """The tails at 0 to n by the closed form, as numerators over one denominator."""
-    power = n * (n + 1) // 2
-    joint, conditional = [WHOLE**power], p
-    for k in range(1, n + 1):
-        joint.append(joint[-1] * conditional // WHOLE**k)
-        conditional = conditional * (WHOLE - rho) + rho * WHOLE**k
-    chances = [
-        comb(n, j) * sum((-1)**i * comb(n - j, i) * joint[j + i] for i in range(n - j + 1)) for j in range(n + 1)
-    ]
-    assert sum(chances) == joint[0] and min(chances) >= 0
-    return [sum(chances[k:]) for k in range(n + 1)], joint[0]
-
-
-def hold_column(n, p, rho):
-    """What is promised of the printed tails and of the column: at most half a unit above the exact tail and less than 0.8 below it;
-    rows that add to 100,000, none below zero, each less than 1.5 units off."""
-    printed, rows = printed_tails(made(n, p, rho)[0][1]), printed_rows(made(n, p, rho)[0][1])
-    tails, whole = exact_tails(n, p, rho)
-    tails = tails + [0]
-    assert printed[0] == UNITS and printed[n + 1] == 0 and sum(rows) == UNITS and min(rows) >= 0
-    assert all(-8 * whole < 10 * (printed[k] * whole - UNITS * tails[k]) <= 5 * whole for k in range(n + 2))
-    assert all(10 * abs(rows[k] * whole - UNITS * (tails[k] - tails[k + 1])) < 15 * whole for k in range(n + 1))
-
-
-def hold(n, p, rho):
-    """What is promised of the list: 0 at 0, each entry less than 1.3 units off, the sum less than 1.3 * n."""
-    entries = shifts(made(n, p, rho)[0][1], made(n, p, 0)[0][1])
-    (tails, whole), (base, same) = exact_tails(n, p, rho), exact_tails(n, p, 0)
-    assert whole == same and sum(tails[1:]) * WHOLE == sum(base[1:]) * WHOLE == n * p * whole
-    assert entries[0] == 0 and max(map(abs, entries)) <= UNITS
-    assert all(10 * abs(entries[k] * whole - UNITS * (tails[k] - base[k])) < 13 * whole for k in range(n + 1))
-    assert 10 * abs(sum(entries[1:])) < 13 * n
-
-
-def shift_list(n, p, rho):
-    if not first(pool_grounds(n, p, rho)):
-        hold_column(n, p, rho)
-        hold(n, p, rho)
-    listed("shifts", n, p, rho)
+from trial_pool import listed, lists, random_cases
 
 
 def ends(n):
     for p in (0, 1, 9999, 10000):
         for rho in (0, 1, 9999, 10000):
-            shift_list(n, p, rho)
+            listed("shifts", n, p, rho)
 
 
 lists("shifts")
 for n in (1, 2, 64):
     ends(n)
 for n, p, rho, *_ in random_cases(300):
-    shift_list(n, p, rho)
+    listed("shifts", n, p, rho)
