@@ -7,6 +7,7 @@ from kept import ONE, ZERO, plus, product, quotient, rounded, value
 
 WHOLE = 10000
 LARGEST_POOL = 64
+SCREEN_POOL = 20
 UNITS = 100000
 LEAST_SHOWN = (2**31, -831)
 
@@ -42,13 +43,18 @@ def tails(side, chances):
     return result
 
 
+def loss_units(n, x, recovery, lower, upper):
+    """What x defaults of n assets take from a tranche."""
+    return max(0, min(x * (WHOLE - recovery) - lower * n, (upper - lower) * n))
+
+
 def loss(side, chances, recovery, lower, upper):
     """The expected loss of a tranche."""
     n = len(chances) - 1
     most = (upper - lower) * n
     total = ZERO
     for x, chance in enumerate(chances):
-        units = max(0, min(x * (WHOLE - recovery) - lower * n, most))
+        units = loss_units(n, x, recovery, lower, upper)
         total = plus(side, total, product(side, chance, rounded(side, units)))
     return quotient(side, total, most)
 
@@ -104,8 +110,9 @@ def assets_ground(n):
     return [(1, n == 0 or n > LARGEST_POOL)]
 
 
-def pool_grounds(n, p, rho):
-    return assets_ground(n) + [(2, p > WHOLE), (3, rho > WHOLE)]
+def pool_grounds(n, p, rho, screen=False):
+    """With 11 directly after 1 on the quote screen."""
+    return assets_ground(n) + [(11, n > SCREEN_POOL)] * screen + [(2, p > WHOLE), (3, rho > WHOLE)]
 
 
 def store_ground(n, lengths):
@@ -120,19 +127,19 @@ def row_refusal(n, k, length):
     return first(assets_ground(n) + store_ground(n, [length]) + [(9, k > n)])
 
 
-def entries_refusal(number, n, p, rho, lengths, entries):
+def entries_refusal(number, n, p, rho, lengths, entries, screen=False):
     """Of a call that writes entries 0 to n to a slice beside the store."""
-    return first(pool_grounds(n, p, rho) + store_ground(n, lengths) + [(number, entries < n + 1)])
+    return first(pool_grounds(n, p, rho, screen) + store_ground(n, lengths) + [(number, entries < n + 1)])
 
 
-def column_refusal(n, p, rho, lengths, units):
-    return entries_refusal(8, n, p, rho, lengths, units)
+def column_refusal(n, p, rho, lengths, units, screen=False):
+    return entries_refusal(8, n, p, rho, lengths, units, screen)
 
 
 def shift_refusal(n, p, rho, lengths, entries):
     return entries_refusal(10, n, p, rho, lengths, entries)
 
 
-def loss_refusal(n, p, rho, recovery, lower, upper, lengths):
+def loss_refusal(n, p, rho, recovery, lower, upper, lengths, screen=False):
     tranche = [(4, recovery > WHOLE), (5, upper > WHOLE), (6, not lower < upper)]
-    return first(pool_grounds(n, p, rho) + tranche + store_ground(n, lengths))
+    return first(pool_grounds(n, p, rho, screen) + tranche + store_ground(n, lengths))

@@ -1,9 +1,9 @@
 """The lines that crates/trial_pool prints of a call, by tools/pools.py. Every column and every shift list is held to the exact
-model."""
+model, and on the screen every bound."""
 from fractions import Fraction
 from functools import lru_cache
 
-from exact import hold_column, hold_shifts
+from exact import hold_bounds, hold_column, hold_loss, hold_shifts
 from kept import value
 from pools import UNITS, WHOLE, column_refusal, fill_refusal, loss, loss_answer, loss_refusal, printed_rows, row_refusal
 from pools import shift_refusal, shifts, steps, tails
@@ -64,8 +64,21 @@ def filled_row(n, p, rho, k):
     line("filled", n, p, rho, "row", k, "part", len(part), *part)
 
 
-def column_words(n, p, rho, lengths, units, before=()):
-    refusal = column_refusal(n, p, rho, lengths, units)
+def hold_screen(refusal, n, p, rho, *tranche):
+    """What the screen promises: bounds at most one part in 1,000,000 apart, and 11 where it has more than 20 assets and 1 does not
+    apply."""
+    assert (refusal == 11) == (20 < n <= 64)
+    if not refusal:
+        hold_bounds(1000000, n, p, rho)
+        if tranche:
+            hold_loss(1000000, n, p, rho, *tranche)
+
+
+def column_words(n, p, rho, lengths, units, before=(), screen=False):
+    refusal = column_refusal(n, p, rho, lengths, units, screen)
+    if screen:
+        hold_screen(refusal, n, p, rho)
+        assert refusal in (11, column_refusal(n, p, rho, lengths, units))
     filled = [] if refusal else made(n, p, rho)
     rows = [] if refusal else printed_rows(filled[0][1])
     if not refusal:
@@ -82,7 +95,11 @@ def shift_words(n, p, rho, lengths, entries, before=()):
     return ["refusal", refusal, *listed, "list", array_word(listed, INTEGER_MARK, ROWS), *store_words(filled, before)]
 
 
-LISTS = {"column": column_words, "shifts": shift_words}
+def screen_words(*given):
+    return column_words(*given, screen=True)
+
+
+LISTS = {"column": column_words, "shifts": shift_words, "screen column": screen_words}
 
 
 def listed(call, n, p, rho, lengths=AMPLE, entries=ROWS):
@@ -104,6 +121,15 @@ def longer(exact):
     return [exact + more for more in (1, 2, 3, 5)]
 
 
+def list_lengths(call, n, exact):
+    """Each slice of the store one place short in turn, then the list, then both; then all of them longer."""
+    for lengths in lengths_of(exact):
+        listed(call, n, 1000, 3000, lengths, n + 1)
+    listed(call, n, 1000, 3000, [exact] * 4, n)
+    listed(call, n, 1000, 3000, lengths_of(exact)[4], n)
+    listed(call, n, 1000, 3000, longer(exact), n + 6)
+
+
 def lists(call):
     """The cases of such a call."""
     for pool in [
@@ -115,11 +141,7 @@ def lists(call):
         for p, rho in [(0, 0), (0, 10000), (5000, 0), (5000, 10000), (10000, 0), (10000, 10000)]:
             listed(call, n, p, rho)
     for n, exact in STORES:
-        for lengths in lengths_of(exact):
-            listed(call, n, 1000, 3000, lengths, n + 1)
-        listed(call, n, 1000, 3000, [exact] * 4, n)
-        listed(call, n, 1000, 3000, lengths_of(exact)[4], n)
-        listed(call, n, 1000, 3000, longer(exact), n + 6)
+        list_lengths(call, n, exact)
     for pool in [(65, 1000, 3000), (3, 10001, 3000), (3, 1000, 10001)]:
         listed(call, *pool, [0] * 4, 0)
     for other in OTHERS:
@@ -138,8 +160,11 @@ def lists(call):
         listed(call, n, p, rho)
 
 
-def answer_words(n, p, rho, recovery, lower, upper, lengths, before=()):
-    refusal = loss_refusal(n, p, rho, recovery, lower, upper, lengths)
+def answer_words(n, p, rho, recovery, lower, upper, lengths, before=(), screen=False):
+    refusal = loss_refusal(n, p, rho, recovery, lower, upper, lengths, screen)
+    if screen:
+        hold_screen(refusal, n, p, rho, recovery, lower, upper)
+        assert refusal in (11, loss_refusal(n, p, rho, recovery, lower, upper, lengths))
     if refusal:
         return ["refusal", refusal, *store_words([], before)]
     filled = made(n, p, rho)
@@ -147,15 +172,15 @@ def answer_words(n, p, rho, recovery, lower, upper, lengths, before=()):
     return [*loss_answer(low, high), *store_words(filled, before)]
 
 
-def tranche_loss(n, p, rho, recovery, lower, upper, lengths=AMPLE):
-    words = answer_words(n, p, rho, recovery, lower, upper, lengths)
-    line("loss", n, p, rho, recovery, "tranche", lower, upper, "lengths", *lengths, *words)
+def tranche_loss(n, p, rho, recovery, lower, upper, lengths=AMPLE, screen=False):
+    words = answer_words(n, p, rho, recovery, lower, upper, lengths, (), screen)
+    line(*["screen"] * screen, "loss", n, p, rho, recovery, "tranche", lower, upper, "lengths", *lengths, *words)
 
 
-def loss_over(other, n, p, rho, recovery, lower, upper):
+def loss_over(other, n, p, rho, recovery, lower, upper, screen=False):
     """The loss on slices that hold another pool's store."""
-    words = answer_words(n, p, rho, recovery, lower, upper, AMPLE, made(*other))
-    line("over", *other, "loss", n, p, rho, recovery, "tranche", lower, upper, *words)
+    words = answer_words(n, p, rho, recovery, lower, upper, AMPLE, made(*other), screen)
+    line("over", *other, *["screen"] * screen, "loss", n, p, rho, recovery, "tranche", lower, upper, *words)
 
 
 def basis_points(word):
@@ -183,6 +208,13 @@ def random_pool(word):
     return n, p, rho, basis_points(following(third))
 
 
+def small_pool(word):
+    """Of 1 to 20 assets."""
+    second = following(word)
+    third = following(second)
+    return 1 + (word >> 8) % 20, basis_points(second), basis_points(third), basis_points(following(third))
+
+
 def random_tranche(word, recovery):
     largest = WHOLE - recovery
     if word % 2 == 0 and largest > 0:
@@ -191,7 +223,7 @@ def random_tranche(word, recovery):
     return basis_points(second), basis_points(following(second))
 
 
-def random_cases(count):
+def random_cases(count, random_pool=random_pool):
     """Pools with a tranche each."""
     word = SEED
     for _ in range(count):

@@ -7,7 +7,7 @@ ghost use mathlib.Core.Path.{_≡_};
 ghost use Prim.Native.Nat.{ℕ};
 ghost use lib.ListN.{length};
 ghost use Rattle.grounds.specs.Grounds.{firstGround, rowGrounds};
-ghost use Rattle.pool.specs.Demands.{lent, FillDemands, RowDemands, ColumnDemands, ShiftDemands, TrancheDemands};
+ghost use Rattle.pool.specs.Demands.{lent, FillDemands, RowDemands, ColumnDemands, ShiftDemands, TrancheDemands, ScreenColumnDemands, ScreenTrancheDemands};
 
 pub fn fill(
     pool: Pool,
@@ -106,6 +106,54 @@ pub fn tranche_loss(
         r ⌝ }
 {
     pool::tranche_loss(
+        pool,
+        tranche,
+        low_significands,
+        high_significands,
+        low_exponents,
+        high_exponents,
+    )
+}
+
+pub fn screen_column(
+    pool: Pool,
+    low_significands: &mut [u32],
+    high_significands: &mut [u32],
+    low_exponents: &mut [i32],
+    high_exponents: &mut [i32],
+    units: &mut [u32],
+) -> u32
+    ensures { λ r. ⌜ ScreenColumnDemands pool
+        (lent (now («low_significands» .entry)) (now («high_significands» .entry)) (now («low_exponents» .entry)) (now («high_exponents» .entry)))
+        (lent (now («low_significands» .exit)) (now («high_significands» .exit)) (now («low_exponents» .exit)) (now («high_exponents» .exit)))
+        (now (units .entry))
+        (now (units .exit))
+        r ⌝ }
+{
+    screen::column(
+        pool,
+        low_significands,
+        high_significands,
+        low_exponents,
+        high_exponents,
+        units,
+    )
+}
+
+pub fn screen_tranche_loss(
+    pool: Pool,
+    tranche: Tranche,
+    low_significands: &mut [u32],
+    high_significands: &mut [u32],
+    low_exponents: &mut [i32],
+    high_exponents: &mut [i32],
+) -> Answer
+    ensures { λ r. ⌜ ScreenTrancheDemands pool tranche
+        (lent (now («low_significands» .entry)) (now («high_significands» .entry)) (now («low_exponents» .entry)) (now («high_exponents» .entry)))
+        (lent (now («low_significands» .exit)) (now («high_significands» .exit)) (now («low_exponents» .exit)) (now («high_exponents» .exit)))
+        r ⌝ }
+{
+    screen::tranche_loss(
         pool,
         tranche,
         low_significands,

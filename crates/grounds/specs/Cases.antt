@@ -1,4 +1,5 @@
--- The grounds in figures: each for every input, those that each call checks, in order, and for each ground inputs to which it alone applies.
+-- The grounds in figures: each for every input, those that each call checks, in order, for each ground inputs to which it alone applies, and what the screen
+-- answers around its ceiling.
 -- Assumes nothing.
 use Prim.Native.Nat.{ℕ, suc, _+_, _*_, _/_}
 use mathlib.Core.Path.{_≡_, refl}
@@ -6,10 +7,10 @@ use mathlib.Core.Bool.{true, false, cond, not, _||_}
 use mathlib.Core.List.{List, [], _∷_}
 use lib.Dec.{eqb, ltb}
 use Rattle.model.specs.Fraction.{whole}
-use Rattle.steps.specs.Inputs.{largestPool}
+use Rattle.steps.specs.Inputs.{largestPool, screenPool}
 use Rattle.grounds.specs.Grounds.{Ground, firstOf, firstGround, storePlaces, someShorter, assetsGround, probabilityGround, correlationGround, recoveryGround, upperGround}
-use Rattle.grounds.specs.Grounds.{attachmentsGround, storeGround, entriesGround, rowGround, poolGrounds, trancheGrounds}
-use Rattle.grounds.specs.Grounds.{fillGrounds, rowGrounds, entriesGrounds, columnGrounds, shiftGrounds, lossGrounds}
+use Rattle.grounds.specs.Grounds.{attachmentsGround, storeGround, entriesGround, rowGround, screenGround, poolGrounds, trancheGrounds}
+use Rattle.grounds.specs.Grounds.{fillGrounds, rowGrounds, entriesGrounds, columnGrounds, shiftGrounds, lossGrounds, screened, screenColumnGrounds, screenLossGrounds}
 
 -- The first ground that applies: one that does gives its number, whatever follows; one that does not leaves it to the others; none gives 0.
 pub first : (m : ℕ) (gs : List Ground)
@@ -31,11 +32,12 @@ pub figures : (n p ρ R A B k units shifts : ℕ) (lengths : List ℕ)
     × (entriesGround 8 n units ≡ record { number = 8; applies = ltb units (n + 1) })
     × (rowGround n k ≡ record { number = 9; applies = ltb n k })
     × (entriesGround 10 n shifts ≡ record { number = 10; applies = ltb shifts (n + 1) })
-unfolding assetsGround probabilityGround correlationGround recoveryGround upperGround attachmentsGround storeGround entriesGround rowGround storePlaces largestPool whole
-figures n p ρ R A B k units shifts lengths = (refl, refl, refl, refl, refl, refl, refl, refl, refl, refl)
+    × (screenGround screenPool n ≡ record { number = 11; applies = ltb 20 n })
+unfolding assetsGround probabilityGround correlationGround recoveryGround upperGround attachmentsGround storeGround entriesGround rowGround screenGround storePlaces largestPool screenPool whole
+figures n p ρ R A B k units shifts lengths = (refl, refl, refl, refl, refl, refl, refl, refl, refl, refl, refl)
 
 -- The grounds that each call checks, in order, with what it is given.
-pub orders : (most n p ρ R A B k length units shifts : ℕ) (lengths : List ℕ)
+pub orders : (most limit n p ρ R A B k length units shifts : ℕ) (lengths : List ℕ)
     → (fillGrounds most n p ρ lengths ≡ assetsGround most n ∷ probabilityGround p ∷ correlationGround ρ ∷ storeGround n lengths ∷ [])
     × (rowGrounds most n k length ≡ assetsGround most n ∷ storeGround n (length ∷ []) ∷ rowGround n k ∷ [])
     × (columnGrounds most n p ρ lengths units
@@ -44,10 +46,15 @@ pub orders : (most n p ρ R A B k length units shifts : ℕ) (lengths : List ℕ
     ≡ assetsGround most n ∷ probabilityGround p ∷ correlationGround ρ ∷ storeGround n lengths ∷ entriesGround 10 n shifts ∷ [])
     × (lossGrounds most n p ρ R A B lengths
     ≡ assetsGround most n ∷ probabilityGround p ∷ correlationGround ρ ∷ recoveryGround R ∷ upperGround B ∷ attachmentsGround A B ∷ storeGround n lengths ∷ [])
-unfolding fillGrounds rowGrounds entriesGrounds columnGrounds shiftGrounds lossGrounds poolGrounds trancheGrounds
-orders most n p ρ R A B k length units shifts lengths = (refl, refl, refl, refl, refl)
+    × (screenColumnGrounds most limit n p ρ lengths units
+    ≡ assetsGround most n ∷ screenGround limit n ∷ probabilityGround p ∷ correlationGround ρ ∷ storeGround n lengths ∷ entriesGround 8 n units ∷ [])
+    × (screenLossGrounds most limit n p ρ R A B lengths
+    ≡ assetsGround most n ∷ screenGround limit n ∷ probabilityGround p ∷ correlationGround ρ ∷ recoveryGround R ∷ upperGround B ∷ attachmentsGround A B
+    ∷ storeGround n lengths ∷ [])
+unfolding fillGrounds rowGrounds entriesGrounds columnGrounds shiftGrounds lossGrounds screened screenColumnGrounds screenLossGrounds poolGrounds trancheGrounds
+orders most limit n p ρ R A B k length units shifts lengths = (refl, refl, refl, refl, refl, refl, refl)
 
--- The numbers of the grounds that apply, of all ten.
+-- The numbers of the grounds that apply, of the ten of the library.
 abbrev applying : List Ground → List ℕ
 applying [] = []
 applying (g ∷ gs) = cond (g .applies) (g .number ∷ applying gs) (applying gs)
@@ -78,3 +85,16 @@ pub table :
     × (refusing 64 10000 10000 10000 9999 10000 (slices 2145 2145) 65 64 64 ≡ 10 ∷ [])
 unfolding assetsGround probabilityGround correlationGround recoveryGround upperGround attachmentsGround storeGround entriesGround rowGround storePlaces someShorter largestPool whole
 table = (refl, refl, refl, refl, refl, refl, refl, refl, refl, refl, refl, refl, refl)
+
+-- The screen's column and loss for n assets: the number with all else right, and with all else wrong.
+abbrev OnScreen : (n right wrong : ℕ) → Type 0
+OnScreen n right wrong =
+    (firstGround (screenColumnGrounds largestPool screenPool n 1000 3000 (slices 2211 2211) 66) ≡ right)
+    × (firstGround (screenLossGrounds largestPool screenPool n 1000 3000 4000 1000 3000 (slices 2211 2211)) ≡ right)
+    × (firstGround (screenColumnGrounds largestPool screenPool n 10001 10001 (slices 0 0) 0) ≡ wrong)
+    × (firstGround (screenLossGrounds largestPool screenPool n 10001 10001 10001 10001 10001 (slices 0 0)) ≡ wrong)
+
+pub screen-table : OnScreen 0 1 1 × OnScreen 1 0 2 × OnScreen 20 0 2 × OnScreen 21 11 11 × OnScreen 64 11 11 × OnScreen 65 1 1
+unfolding firstOf firstGround assetsGround probabilityGround correlationGround recoveryGround upperGround attachmentsGround storeGround entriesGround screenGround storePlaces someShorter fillGrounds entriesGrounds columnGrounds lossGrounds screened screenColumnGrounds screenLossGrounds poolGrounds trancheGrounds largestPool screenPool whole
+screen-table =
+    ((refl, refl, refl, refl), (refl, refl, refl, refl), (refl, refl, refl, refl), (refl, refl, refl, refl), (refl, refl, refl, refl), (refl, refl, refl, refl))

@@ -1,6 +1,7 @@
 -- The grounds on which a call says no, and what an accepted call's inputs are. Numbers and order are the scope paper's.
 -- Assumes nothing.
 use Prim.Native.Nat.{ℕ, zero, suc, _+_, _*_, _/_, _≤_, _<_}
+use mathlib.Core.Path.{_≡_}
 use mathlib.Core.Bool.{Bool, false, cond, not, _||_}
 use mathlib.Core.List.{List, [], _∷_, _++_}
 use lib.Dec.{eqb, ltb}
@@ -76,6 +77,10 @@ entriesGround number n places = record { number = number; applies = ltb places (
 unfoldable pub rowGround : (n k : ℕ) → Ground
 rowGround n k = record { number = 9; applies = ltb n k }
 
+-- More assets than the quote screen takes.
+unfoldable pub screenGround : (limit n : ℕ) → Ground
+screenGround limit n = record { number = 11; applies = ltb limit n }
+
 -- ---- the grounds of each call, in order; `most` is its ceiling on the assets
 
 -- 1 to 3, on the pool.
@@ -109,6 +114,26 @@ shiftGrounds = entriesGrounds 10
 -- 1 to 7.
 unfoldable pub lossGrounds : (most n p ρ R A B : ℕ) (lengths : List ℕ) → List Ground
 lossGrounds most n p ρ R A B lengths = poolGrounds most n p ρ ++ (trancheGrounds R A B ++ (storeGround n lengths ∷ []))
+
+-- On the quote screen, which has a limit of its own: the same with 11 directly after the first.
+unfoldable pub screened : (limit n : ℕ) → List Ground → List Ground
+screened limit n [] = screenGround limit n ∷ []
+screened limit n (g ∷ gs) = g ∷ screenGround limit n ∷ gs
+
+-- 1, 11, 2, 3, 7 and 8.
+unfoldable pub screenColumnGrounds : (most limit n p ρ : ℕ) (lengths : List ℕ) (units : ℕ) → List Ground
+screenColumnGrounds most limit n p ρ lengths units = screened limit n (columnGrounds most n p ρ lengths units)
+
+-- 1, 11, and 2 to 7.
+unfoldable pub screenLossGrounds : (most limit n p ρ R A B : ℕ) (lengths : List ℕ) → List Ground
+screenLossGrounds most limit n p ρ R A B lengths = screened limit n (lossGrounds most n p ρ R A B lengths)
+
+-- The number that the screen's list gives, beside that of the library's list for the same inputs: 11 exactly where the pool has more than `limit` assets and
+-- ground 1 does not apply, and the library's otherwise.
+pub record Screens (most limit n library number : ℕ) : Type 0 where
+  pub eleven : limit < n → n ≤ most → number ≡ 11
+  pub only : number ≡ 11 → (limit < n) × (n ≤ most)
+  pub otherwise : (number ≡ 11 → ⊥) → number ≡ library
 
 -- ---- what the inputs of an accepted call are
 

@@ -5,7 +5,7 @@ ghost use mathlib.Core.Path.{_≡_};
 ghost use mathlib.Core.Bool.{cond};
 ghost use mathlib.Core.List.{[], _∷_};
 ghost use Rattle.model.specs.Number.{triangle};
-ghost use Rattle.grounds.specs.Grounds.{firstOf, firstGround, storePlaces, fourLengths, assetsGround, storeGround};
+ghost use Rattle.grounds.specs.Grounds.{firstOf, firstGround, storePlaces, fourLengths, assetsGround, storeGround, screenGround};
 ghost use Rattle.grounds.specs.Grounds.{poolGrounds, trancheGrounds, fillGrounds, rowGrounds, entriesGrounds, columnGrounds, shiftGrounds, lossGrounds};
 
 // The lengths of the four slices of a store.
@@ -34,6 +34,15 @@ fn assets_refusal(most: u32, n: u32) -> u32
     ensures { λ r. ⌜ r ≡ firstGround (assetsGround most n ∷ []) ⌝ }
 {
     ground(1, (n == 0) | (n > most))
+}
+
+// 1 and 11: what the quote screen, which has a limit of its own, checks first.
+pub fn screen_refusal(most: u32, limit: u32, n: u32) -> u32
+    ensures { λ r. ⌜ r ≡ firstGround (assetsGround most n ∷ screenGround limit n ∷ []) ⌝ }
+{
+    let of_assets = assets_refusal(most, n);
+    let of_screen = ground(11, n > limit);
+    first(of_assets, of_screen)
 }
 
 fn pool_refusal(most: u32, n: u32, p: u32, rho: u32) -> u32

@@ -5,6 +5,7 @@ use Rattle.steps.specs.Loss.{LossAnswer}
 use Rattle.chances.specs.Loss.{lossOf}
 use Rattle.pool.specs.declared.Answer.{Answer}
 use Rattle.pool.specs.declared.Answer.the-variants.{Refused, Answered}
+pub mod Laws
 
 -- What the loss call answers: the number of a refusal, or a loss.
 pub data LossReply : Type 0 where

@@ -1,4 +1,5 @@
--- What the calls on a pool promise. Those on its store are in the crate `store`.
+-- What the calls on a pool promise. Those on its store are in the crate `store`. A record takes what gives the call's refusal, from its inputs, and how far its bounds are
+-- apart: for k assets at most one part in g k.
 -- Assumes nothing.
 use Prim.Native.Nat.{ℕ, _-_, _*_, _<_}
 use mathlib.Core.Path.{_≡_}
@@ -9,7 +10,7 @@ use Rattle.kept.specs.declared.Side.the-variants.{Low}
 use Rattle.steps.specs.Column.{printedRow, tenths}
 use Rattle.steps.specs.Loss.{LossAnswer}
 use Rattle.steps.specs.CorrelatedBinomial.{keptDefaults}
-use Rattle.steps.specs.Inputs.{largestPool, distanceFor, tenthsFor}
+use Rattle.steps.specs.Inputs.{largestPool, tenthsFor}
 use Rattle.steps.specs.Promises.{HoldsColumn, HoldsLoss}
 use Rattle.working.specs.Slices.{entriesAfter}
 use Rattle.grounds.specs.Grounds.{firstGround, columnGrounds, lossGrounds}
@@ -26,9 +27,9 @@ unfoldable pub columnRefusal : Pool → Store → List ℕ → ℕ
 columnRefusal pool s units =
     firstGround (columnGrounds largestPool (pool .assets) (pool .probability) (pool .correlation) (lengths s) (length units))
 
-pub record Prints (pool : Pool) (before after : Store) (units units′ : List ℕ) (refusal : ℕ) : Type 0 where
-  pub refusal-is : refusal ≡ columnRefusal pool before units
-  pub leaves : LeavesStore pool before after refusal
+pub record Prints (refuses : Pool → Store → List ℕ → ℕ) (g : ℕ → ℕ) (pool : Pool) (before after : Store) (units units′ : List ℕ) (refusal : ℕ) : Type 0 where
+  pub refusal-is : refusal ≡ refuses pool before units
+  pub leaves : LeavesStore g pool before after refusal
   pub units-are : units′
       ≡ entriesAfter (pool .assets) (printedRow (pool .assets) (keptDefaults Low (pool .assets) (pool .probability) (pool .correlation))) refusal units
   pub holds-column : refusal ≡ 0
@@ -46,12 +47,12 @@ lossRefusal pool tranche s =
 abbrev pub Wide : Pool → Tranche → Type 0
 Wide pool tranche = 0 < (tranche .upper - tranche .lower) * pool .assets
 
-module _ (pool : Pool) (tranche : Tranche) (wide : Wide pool tranche) where
+module _ (g : ℕ → ℕ) (pool : Pool) (tranche : Tranche) (wide : Wide pool tranche) where
   -- What holds of a loss of the tranche that is answered.
   unfoldable pub PoolHoldsLoss : LossAnswer → Type 0
   unfolding defaults
   PoolHoldsLoss loss =
-      HoldsLoss (distanceFor (pool .assets)) (defaults (pool .assets) (pool .probability) (pool .correlation))
+      HoldsLoss (g (pool .assets)) (defaults (pool .assets) (pool .probability) (pool .correlation))
       (λ side. keptDefaults side (pool .assets) (pool .probability) (pool .correlation)) (pool .recovery) (tranche .lower) (tranche .upper) wide loss
 
   -- A loss is answered, and that holds of it.
@@ -60,9 +61,9 @@ module _ (pool : Pool) (tranche : Tranche) (wide : Wide pool tranche) where
     pub reply-is : reply ≡ answered loss
     pub holds : PoolHoldsLoss loss
 
-pub record Replies (pool : Pool) (tranche : Tranche) (before after : Store) (reply : LossReply) : Type 0 where
-  pub refusal-is : refusalOf reply ≡ lossRefusal pool tranche before
-  pub refused-is : (lossRefusal pool tranche before ≡ 0 → ⊥) → reply ≡ refused (lossRefusal pool tranche before)
-  pub leaves : LeavesStore pool before after (lossRefusal pool tranche before)
-  pub wide : lossRefusal pool tranche before ≡ 0 → Wide pool tranche
-  pub holds-loss : lossRefusal pool tranche before ≡ 0 → (wide : Wide pool tranche) → AnswersLoss pool tranche wide reply
+pub record Replies (refuses : Pool → Tranche → Store → ℕ) (g : ℕ → ℕ) (pool : Pool) (tranche : Tranche) (before after : Store) (reply : LossReply) : Type 0 where
+  pub refusal-is : refusalOf reply ≡ refuses pool tranche before
+  pub refused-is : (refuses pool tranche before ≡ 0 → ⊥) → reply ≡ refused (refuses pool tranche before)
+  pub leaves : LeavesStore g pool before after (refuses pool tranche before)
+  pub wide : refuses pool tranche before ≡ 0 → Wide pool tranche
+  pub holds-loss : refuses pool tranche before ≡ 0 → (wide : Wide pool tranche) → AnswersLoss g pool tranche wide reply

@@ -2,8 +2,9 @@
 -- its part; that of a call of a crate above this one, which has its demands here, is shown there.
 -- 1. Every input is answered or refused by one number, and a refused call leaves its slices as they were.
 -- 2. Two bounds that the rounding steps make lie round every exact value of the model.
--- 3. The two are at most one part in 100,000 apart; the rows of a column are differences of tails rounded to nearest, add to exactly 100,000 units, and each is less
--- than 1.5 units off; the entries of a shift list past the first add to less than 1.3 units for each asset, and each is less than 1.3 units off.
+-- 3. The two are at most one part in 100,000 apart, on the quote screen one part in 1,000,000; the rows of a column are differences of tails rounded to nearest, add
+-- to exactly 100,000 units, and each is less than 1.5 units off; the entries of a shift list past the first add to less than 1.3 units for each asset, and each is
+-- less than 1.3 units off.
 -- Assumes nothing.
 use Prim.Native.Nat.{ℕ, suc, _+_, _-_, _*_, _/_, _≤_, _<_}
 use mathlib.Core.Path.{_≡_}
@@ -29,13 +30,17 @@ use Rattle.steps.specs.Chances.{keptTail, keptLoss}
 use Rattle.steps.specs.Column.{printedTail}
 use Rattle.steps.specs.CorrelatedBinomial.{keptDefaults}
 use Rattle.steps.specs.CorrelatedBinomial.Exponents.{PoolNumber}
-use Rattle.grounds.specs.Grounds.{Ground, firstGround, fillGrounds, rowGrounds, columnGrounds, shiftGrounds, lossGrounds}
+use Rattle.steps.specs.Inputs.{distanceFor}
+use Rattle.grounds.specs.Grounds.{Ground, firstGround, fillGrounds, rowGrounds, columnGrounds, shiftGrounds, lossGrounds, screenColumnGrounds, screenLossGrounds, Screens}
 use Rattle.store.specs.declared.Pool.{Pool}
+use Rattle.store.specs.Stores.{Store, store}
 use Rattle.pool.specs.declared.Tranche.{Tranche}
 use Rattle.chances.specs.declared.Loss.{Loss}
 use Rattle.chances.specs.declared.Loss.the-variants.{Untouched, Faint, Shown}
 use Rattle.pool.specs.declared.Answer.{Answer}
 use Rattle.pool.specs.declared.Answer.the-variants.{Refused, Answered}
+use Rattle.pool.specs.Answers.{replyOf}
+use Rattle.pool.specs.Calls.{columnRefusal, Prints, lossRefusal, Replies}
 pub mod Theorems
 
 -- ---- the demands
@@ -51,15 +56,15 @@ pub record Demand2 (low high : Kept) (exact : Fraction) : Type 0 where
   pub from-below : AtMost (value low) exact
   pub from-above : AtMost exact (value high)
 
--- Demand 3, of two bounds: 100,000 × (high − low) ≤ exact, so that an exact zero has zero for both.
-pub record Demand3 (low high : Kept) (exact : Fraction) : Type 0 where
-  pub apart : AtMost (times (integer 100000) (value high)) (plus exact (times (integer 100000) (value low)))
+-- Demand 3, of two bounds that may be one part in so many apart: parts × (high − low) ≤ exact, so that an exact zero has zero for both.
+pub record Demand3 (parts : ℕ) (low high : Kept) (exact : Fraction) : Type 0 where
+  pub apart : AtMost (times (integer parts) (value high)) (plus exact (times (integer parts) (value low)))
   pub of-zero : exact .num ≡ 0 → (low ≡ nought) × (high ≡ nought)
 
 -- Demands 2 and 3 of two bounds.
-pub record BoundDemands (low high : Kept) (exact : Fraction) : Type 0 where
+pub record BoundDemands (parts : ℕ) (low high : Kept) (exact : Fraction) : Type 0 where
   pub two : Demand2 low high exact
-  pub three : Demand3 low high exact
+  pub three : Demand3 parts low high exact
 
 -- 0.5
 unfoldable pub oneHalf : Fraction
@@ -111,8 +116,13 @@ pub record Slices : Type 0 where
   pub lowExponents : List ℤ
   pub highExponents : List ℤ
 
+-- From the four of them.
 unfoldable pub lent : (lowSignificands highSignificands : List ℕ) (lowExponents highExponents : List ℤ) → Slices
 lent ls hs le he = record { lowSignificands = ls; highSignificands = hs; lowExponents = le; highExponents = he }
+
+-- The same four as the store of a contract.
+abbrev pub storeOf : Slices → Store
+storeOf s = store (s .lowSignificands) (s .highSignificands) (s .lowExponents) (s .highExponents)
 
 abbrev pub lengthsOf : Slices → List ℕ
 lengthsOf s = length (s .lowSignificands) ∷ length (s .highSignificands) ∷ length (s .lowExponents) ∷ length (s .highExponents) ∷ []
@@ -161,8 +171,8 @@ LossDemands low high (Faint number) = FaintDemands low high number
 LossDemands low high (Shown bounds) = ShownDemands low high (bounds .low) (bounds .high)
 
 -- A loss is answered, with the two bounds of step 6 and the exact loss.
-pub record AnswerDemands (low high : Kept) (exact : Fraction) (answer : Answer) : Type 0 where
-  pub bounds : BoundDemands low high exact
+pub record AnswerDemands (parts : ℕ) (low high : Kept) (exact : Fraction) (answer : Answer) : Type 0 where
+  pub bounds : BoundDemands parts low high exact
   pub loss : Loss
   pub answer-is : answer ≡ Answered loss
   pub says : LossDemands low high loss
@@ -192,13 +202,13 @@ module _ (pool : Pool) where
   -- The table that every accepted call works out. In the store, at place k(k+1)/2 + j, stand on either side the numbers that steps 1 to 3 make for entry j of
   -- row k, bounds of P(j,k). Steps 4 and 5 make bounds of the chances and of the tails. No number that the steps make has an exponent below −80,000 or above
   -- 100.
-  pub record TableDemands (s : Slices) : Type 0 where
+  pub record TableDemands (parts : ℕ) (s : Slices) : Type 0 where
     pub made : (side : Side) (j k : ℕ) → j ≤ k → k ≤ n → numberOn side s (k * (k + 1) / 2 + j) ≡ keptRow side p ρ k j
     pub entries : (j k : ℕ) → j ≤ k → k ≤ n
-        → BoundDemands (numberOn Low s (k * (k + 1) / 2 + j)) (numberOn High s (k * (k + 1) / 2 + j)) (probability p ρ j k)
-    pub chances : (j : ℕ) → j ≤ n → BoundDemands (keptDefaults Low n p ρ j) (keptDefaults High n p ρ j) (chance (defaults n p ρ) j)
+        → BoundDemands parts (numberOn Low s (k * (k + 1) / 2 + j)) (numberOn High s (k * (k + 1) / 2 + j)) (probability p ρ j k)
+    pub chances : (j : ℕ) → j ≤ n → BoundDemands parts (keptDefaults Low n p ρ j) (keptDefaults High n p ρ j) (chance (defaults n p ρ) j)
     pub tails : (k : ℕ)
-        → BoundDemands (keptTail Low n (keptDefaults Low n p ρ) k) (keptTail High n (keptDefaults High n p ρ) k) (tail (defaults n p ρ) k)
+        → BoundDemands parts (keptTail Low n (keptDefaults Low n p ρ) k) (keptTail High n (keptDefaults High n p ρ) k) (tail (defaults n p ρ) k)
     pub exponents : (side : Side) {x : Kept} → PoolNumber side n p ρ x → (negsuc 79999 ≤ℤ x .exponent) × (x .exponent ≤ℤ pos 100)
 
   -- The places of rows 0 to n.
@@ -206,31 +216,44 @@ module _ (pool : Pool) where
   places = (n + 1) * (n + 2) / 2
 
   -- What every call that fills the store leaves of it where it is accepted: the table, and behind it what stood there.
-  pub record StoreDemands (before after : Slices) (refusal : ℕ) : Type 0 where
-    pub table : refusal ≡ 0 → TableDemands after
+  pub record StoreDemands (parts : ℕ) (before after : Slices) (refusal : ℕ) : Type 0 where
+    pub table : refusal ≡ 0 → TableDemands parts after
     pub later : refusal ≡ 0 → from places after ≡ from places before
 
   pub record FillDemands (before after : Slices) (refusal : ℕ) : Type 0 where
     pub one : Demand1 (fillGrounds 64 n p ρ (lengthsOf before)) refusal before after
-    pub store : StoreDemands before after refusal
+    pub store : StoreDemands 100000 before after refusal
 
   -- What a call leaves that also writes entries 0 to n to a slice beside the store, which held `old`: a place behind them keeps its content.
-  pub record EntriesDemands {A : Type 0} (grounds : List Ground) (before after : Slices) (old new : List A) (refusal : ℕ) : Type 0 where
+  pub record EntriesDemands {A : Type 0} (parts : ℕ) (grounds : List Ground) (before after : Slices) (old new : List A) (refusal : ℕ) : Type 0 where
     pub one : Demand1 {Given = Slices × List A} grounds refusal (before, old) (after, new)
-    pub store : StoreDemands before after refusal
+    pub store : StoreDemands parts before after refusal
     pub later-entries : refusal ≡ 0 → drop (n + 1) new ≡ drop (n + 1) old
 
   -- The tails of the low side that step 5 makes, at a correlation.
   abbrev lowTails : ℕ → ℕ → Kept
   lowTails ρ k = keptTail Low n (keptDefaults Low n p ρ) k
 
-  pub record ColumnDemands (before after : Slices) (units units′ : List ℕ) (refusal : ℕ) : Type 0 where
-    pub leaves : EntriesDemands (columnGrounds 64 n p ρ (lengthsOf before) (length units)) before after units units′ refusal
+  -- Of a column call, by how far its bounds are apart and by its grounds.
+  pub record ColumnDemandsBy (parts : ℕ) (grounds : List Ground) (before after : Slices) (units units′ : List ℕ) (refusal : ℕ) : Type 0 where
+    pub leaves : EntriesDemands parts grounds before after units units′ refusal
     pub column : refusal ≡ 0 → Demand3Column n (lowTails ρ) (printedTail n (keptDefaults Low n p ρ)) (chance (defaults n p ρ)) units′
+
+  abbrev pub ColumnDemands : (before after : Slices) (units units′ : List ℕ) (refusal : ℕ) → Type 0
+  ColumnDemands before after units = ColumnDemandsBy 100000 (columnGrounds 64 n p ρ (lengthsOf before) (length units)) before after units
+
+  -- The column of the quote screen, with grounds and a distance of its own. It refuses by 11 exactly where there are more than 20 assets and 1 does not apply. Save
+  -- there, what it answers and leaves is what the contract of the library's call says for the same inputs, which leaves one outcome.
+  pub record ScreenColumnDemands (before after : Slices) (units units′ : List ℕ) (refusal : ℕ) : Type 0 where
+    pub own : ColumnDemandsBy 1000000 (screenColumnGrounds 64 20 n p ρ (lengthsOf before) (length units)) before after units units′ refusal
+    pub screens : Screens 64 20 n (firstGround (columnGrounds 64 n p ρ (lengthsOf before) (length units))) refusal
+    pub library : (refusal ≡ 11 → ⊥) → Prints columnRefusal distanceFor pool (storeOf before) (storeOf after) units units′ refusal
+    pub same : (refusal ≡ 11 → ⊥) → (after₂ : Slices) (units₂ : List ℕ) (refusal₂ : ℕ)
+        → Prints columnRefusal distanceFor pool (storeOf before) (storeOf after₂) units units₂ refusal₂ → (refusal ≡ refusal₂) × (after ≡ after₂) × (units′ ≡ units₂)
 
   -- The other correlation is 0.
   pub record ShiftDemands (before after : Slices) (shifts shifts′ : List ℤ) (refusal : ℕ) : Type 0 where
-    pub leaves : EntriesDemands (shiftGrounds 64 n p ρ (lengthsOf before) (length shifts)) before after shifts shifts′ refusal
+    pub leaves : EntriesDemands 100000 (shiftGrounds 64 n p ρ (lengthsOf before) (length shifts)) before after shifts shifts′ refusal
     pub list : refusal ≡ 0
         → Demand3Shifts n (lowTails ρ) (lowTails 0) (printedTail n (keptDefaults Low n p ρ)) (printedTail n (keptDefaults Low n p 0))
         (tail (defaults n p ρ)) (tail (defaults n p 0)) shifts′
@@ -245,14 +268,25 @@ module _ (pool : Pool) where
     abbrev B : ℕ
     B = tranche .upper
 
-    -- `wide`: what step 6 divides by is above zero.
-    pub record TrancheDemands (before after : Slices) (answer : Answer) : Type 0 where
-      pub one : Demand1 (lossGrounds 64 n p ρ R A B (lengthsOf before)) (refusalIn answer) before after
-      pub store : StoreDemands before after (refusalIn answer)
+    -- Of a loss call, by how far its bounds are apart and by its grounds. `wide`: what step 6 divides by is above zero.
+    pub record TrancheDemandsBy (parts : ℕ) (grounds : List Ground) (before after : Slices) (answer : Answer) : Type 0 where
+      pub one : Demand1 grounds (refusalIn answer) before after
+      pub store : StoreDemands parts before after (refusalIn answer)
       pub wide : refusalIn answer ≡ 0 → 0 < (B - A) * n
       pub loss : refusalIn answer ≡ 0 → (wide : 0 < (B - A) * n)
-          → AnswerDemands (keptLoss Low n (keptDefaults Low n p ρ) R A B wide) (keptLoss High n (keptDefaults High n p ρ) R A B wide)
+          → AnswerDemands parts (keptLoss Low n (keptDefaults Low n p ρ) R A B wide) (keptLoss High n (keptDefaults High n p ρ) R A B wide)
           (exactLoss n p ρ R A B wide) answer
+
+    abbrev pub TrancheDemands : (before after : Slices) (answer : Answer) → Type 0
+    TrancheDemands before = TrancheDemandsBy 100000 (lossGrounds 64 n p ρ R A B (lengthsOf before)) before
+
+    -- The quote screen's loss, as its column.
+    pub record ScreenTrancheDemands (before after : Slices) (answer : Answer) : Type 0 where
+      pub own : TrancheDemandsBy 1000000 (screenLossGrounds 64 20 n p ρ R A B (lengthsOf before)) before after answer
+      pub screens : Screens 64 20 n (firstGround (lossGrounds 64 n p ρ R A B (lengthsOf before))) (refusalIn answer)
+      pub library : (refusalIn answer ≡ 11 → ⊥) → Replies lossRefusal distanceFor pool tranche (storeOf before) (storeOf after) (replyOf answer)
+      pub same : (refusalIn answer ≡ 11 → ⊥) → (after₂ : Slices) (answer₂ : Answer)
+          → Replies lossRefusal distanceFor pool tranche (storeOf before) (storeOf after₂) (replyOf answer₂) → (answer ≡ answer₂) × (after ≡ after₂)
 
 -- The slice is lent to be read, so that no call can write to it. Row k of a filled store has the significands of its bounds.
 pub record RowDemands (n k : ℕ) (significands part : List ℕ) (refusal : ℕ) : Type 0 where
@@ -260,5 +294,5 @@ pub record RowDemands (n k : ℕ) (significands part : List ℕ) (refusal : ℕ)
   pub refused : (refusal ≡ 0 → ⊥) → length part ≡ 0
   pub entries : refusal ≡ 0 → length part ≡ k + 1
   pub entry : refusal ≡ 0 → (j : ℕ) → j ≤ k → getD part j 0 ≡ getD significands (k * (k + 1) / 2 + j) 0
-  pub of-filled : refusal ≡ 0 → (pool : Pool) (s : Slices) → TableDemands pool s → n ≤ pool .assets → (side : Side) → significands ≡ significandsOn side s
+  pub of-filled : refusal ≡ 0 → (parts : ℕ) (pool : Pool) (s : Slices) → TableDemands pool parts s → n ≤ pool .assets → (side : Side) → significands ≡ significandsOn side s
       → (j : ℕ) → j ≤ k → getD part j 0 ≡ keptRow side (pool .probability) (pool .correlation) k j .significand

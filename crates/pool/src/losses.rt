@@ -5,9 +5,10 @@ use super::Tranche;
 use grounds::Lengths;
 use steps::LARGEST_POOL;
 use store::fill_both;
+ghost use Rattle.steps.specs.Inputs.{distanceFor};
 ghost use Rattle.store.specs.Stores.{store};
 ghost use Rattle.pool.specs.Answers.{replyOf};
-ghost use Rattle.pool.specs.Calls.{Replies};
+ghost use Rattle.pool.specs.Calls.{lossRefusal, Replies};
 
 // The expected loss of a tranche of the pool. The store is filled on the way.
 pub fn tranche_loss(
@@ -18,7 +19,7 @@ pub fn tranche_loss(
     low_exponents: &mut [i32],
     high_exponents: &mut [i32],
 ) -> Answer
-    ensures { λ r. ⌜ Replies pool tranche
+    ensures { λ r. ⌜ Replies lossRefusal distanceFor pool tranche
         (store (now («low_significands» .entry)) (now («high_significands» .entry)) (now («low_exponents» .entry)) (now («high_exponents» .entry)))
         (store (now («low_significands» .exit)) (now («high_significands» .exit)) (now («low_exponents» .exit)) (now («high_exponents» .exit)))
         (replyOf r) ⌝ }

@@ -3,8 +3,9 @@ use super::Pool;
 use grounds::Lengths;
 use steps::LARGEST_POOL;
 use store::fill_both;
+ghost use Rattle.steps.specs.Inputs.{distanceFor};
 ghost use Rattle.store.specs.Stores.{store};
-ghost use Rattle.pool.specs.Calls.{Prints};
+ghost use Rattle.pool.specs.Calls.{columnRefusal, Prints};
 
 // Writes rows 0 to n of the column, each the difference of two printed tails, and nothing behind them. The store is filled on the
 // way. Gives the number of a refusal, or 0. The recovery plays no part.
@@ -16,7 +17,7 @@ pub fn column(
     high_exponents: &mut [i32],
     units: &mut [u32],
 ) -> u32
-    ensures { λ r. ⌜ Prints pool
+    ensures { λ r. ⌜ Prints columnRefusal distanceFor pool
         (store (now («low_significands» .entry)) (now («high_significands» .entry)) (now («low_exponents» .entry)) (now («high_exponents» .entry)))
         (store (now («low_significands» .exit)) (now («high_significands» .exit)) (now («low_exponents» .exit)) (now («high_exponents» .exit)))
         (now (units .entry))

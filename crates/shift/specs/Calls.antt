@@ -10,7 +10,7 @@ use Rattle.kept.specs.declared.Side.the-variants.{Low}
 use Rattle.steps.specs.Column.{tenths}
 use Rattle.steps.specs.Shifts.{tailShift}
 use Rattle.steps.specs.CorrelatedBinomial.{keptDefaults}
-use Rattle.steps.specs.Inputs.{largestPool, shiftTenths}
+use Rattle.steps.specs.Inputs.{largestPool, distanceFor, shiftTenths}
 use Rattle.steps.specs.Promises.{HoldsShifts}
 use Rattle.working.specs.Slices.{entriesAfter}
 use Rattle.grounds.specs.Grounds.{firstGround, shiftGrounds}
@@ -27,7 +27,7 @@ shiftRefusal pool s shifts =
 -- The store is that of the pool. Entry k of the list is the printed tail at k less that of the same pool at correlation 0.
 pub record ListsShifts (pool : Pool) (before after : Store) (shifts shifts′ : List ℤ) (refusal : ℕ) : Type 0 where
   pub refusal-is : refusal ≡ shiftRefusal pool before shifts
-  pub leaves : LeavesStore pool before after refusal
+  pub leaves : LeavesStore distanceFor pool before after refusal
   pub shifts-are : shifts′
       ≡ entriesAfter (pool .assets)
       (tailShift (pool .assets) (keptDefaults Low (pool .assets) (pool .probability) (pool .correlation)) (keptDefaults Low (pool .assets) (pool .probability) 0))

@@ -12,6 +12,14 @@ largestPool = 64
 unfoldable pub distanceFor : ℕ → ℕ
 distanceFor n = 100000
 
+-- The most assets of a pool on the quote screen, a product above the library for small pools.
+unfoldable pub screenPool : ℕ
+screenPool = 20
+
+-- Bounds for such a pool of n assets are at most one part in so many apart.
+unfoldable pub screenDistance : ℕ → ℕ
+screenDistance n = 1000000
+
 -- A printed row for n assets is less than so many tenths of a unit off.
 unfoldable pub tenthsFor : ℕ → ℕ
 tenthsFor n = 15

@@ -19,12 +19,12 @@ use Rattle.store.specs.Stores.{Store, lengths, place, storeAfter, HoldsE
 pub mod Laws
 
 -- How every call that works the table out leaves the store: filled, or untouched on a refusal. With what holds of a filled store, and of all that the steps make
--- of the pool.
-pub record LeavesStore (pool : Pool) (before after : Store) (refusal : ℕ) : Type 0 where
+-- of the pool; bounds for k assets are at most one part in g k apart.
+pub record LeavesStore (g : ℕ → ℕ) (pool : Pool) (before after : Store) (refusal : ℕ) : Type 0 where
   pub store-is : after ≡ storeAfter (pool .assets) (pool .probability) (pool .correlation) refusal before
-  pub holds : refusal ≡ 0 → HoldsEntries (pool .assets) (pool .probability) (pool .correlation) distanceFor after
+  pub holds : refusal ≡ 0 → HoldsEntries (pool .assets) (pool .probability) (pool .correlation) g after
   pub steps-hold : refusal ≡ 0
-      → HoldsSteps (distanceFor (pool .assets)) (defaults (pool .assets) (pool .probability) (pool .correlation))
+      → HoldsSteps (g (pool .assets)) (defaults (pool .assets) (pool .probability) (pool .correlation))
       (λ side. keptDefaults side (pool .assets) (pool .probability) (pool .correlation))
       (λ side. PoolNumber side (pool .assets) (pool .probability) (pool .correlation))
 
@@ -35,7 +35,7 @@ fillRefusal pool s = firstGround (fillGrounds largestPool (pool .assets) (pool .
 
 pub record Fills (pool : Pool) (before after : Store) (refusal : ℕ) : Type 0 where
   pub refusal-is : refusal ≡ fillRefusal pool before
-  pub leaves : LeavesStore pool before after refusal
+  pub leaves : LeavesStore distanceFor pool before after refusal
 
 -- ---- row
 

@@ -53,77 +53,84 @@ pub fn over_others(call: Call, pool: Pool) {
 
 // ---- a list
 
-// A shift list, or else a column, in so many places.
-fn listing(shifts: bool, places: usize) -> Call {
-    if shifts {
-        Call::Shifts(places)
-    } else {
-        Call::Column(places)
+// A call that leaves a list of entries 0 to n in a slice.
+pub enum List {
+    Column,
+    Shifts,
+    ScreenColumn,
+}
+
+// That call, with so many places for the list.
+fn listing(list: List, places: usize) -> Call {
+    match list {
+        List::Column => Call::Column(places),
+        List::Shifts => Call::Shifts(places),
+        List::ScreenColumn => Call::ScreenColumn(places),
     }
 }
 
-fn list_ample(shifts: bool, assets: u32, probability: u32, correlation: u32) {
+fn list_ample(list: List, assets: u32, probability: u32, correlation: u32) {
     run_ample(
-        listing(shifts, ROWS),
+        listing(list, ROWS),
         pool_of(assets, probability, correlation),
     );
 }
 
-fn list_pools(shifts: bool) {
-    list_ample(shifts, 3, 1_000, 3_000);
-    list_ample(shifts, 0, 1_000, 3_000);
-    list_ample(shifts, 64, 1_000, 3_000);
-    list_ample(shifts, 65, 1_000, 3_000);
-    list_ample(shifts, 3, 10_001, 3_000);
-    list_ample(shifts, 3, 1_000, 10_001);
-    list_ample(shifts, 65, 10_001, 10_001);
-    list_ample(shifts, 3, 10_001, 10_001);
+fn list_pools(list: List) {
+    list_ample(list, 3, 1_000, 3_000);
+    list_ample(list, 0, 1_000, 3_000);
+    list_ample(list, 64, 1_000, 3_000);
+    list_ample(list, 65, 1_000, 3_000);
+    list_ample(list, 3, 10_001, 3_000);
+    list_ample(list, 3, 1_000, 10_001);
+    list_ample(list, 65, 10_001, 10_001);
+    list_ample(list, 3, 10_001, 10_001);
 }
 
-fn list_ends(shifts: bool, assets: u32) {
-    list_ample(shifts, assets, 0, 0);
-    later_ends(listing(shifts, ROWS), assets);
+fn list_ends(list: List, assets: u32) {
+    list_ample(list, assets, 0, 0);
+    later_ends(listing(list, ROWS), assets);
 }
 
 // Also a list one place short, alone and with a slice, and longer.
-fn list_lengths(shifts: bool, assets: u32, exact: usize, short: usize, entries: usize)
+pub fn list_lengths(list: List, assets: u32, exact: usize, short: usize, entries: usize)
     requires { ⌜ exact ≤ 2145 ⌝ ∗ ⌜ 1 ≤ entries ⌝ ∗ ⌜ entries ≤ 65 ⌝ }
 {
     let pool = pool_of(assets, 1_000, 3_000);
-    let short_list = listing(shifts, entries - 1);
-    exact_lengths(listing(shifts, entries), pool, exact, short);
+    let short_list = listing(list, entries - 1);
+    exact_lengths(listing(list, entries), pool, exact, short);
     run(short_list, pool, Lengths(exact, exact, exact, exact));
     run(short_list, pool, Lengths(exact, exact, exact, short));
-    longer_lengths(listing(shifts, entries + 5), pool, exact);
+    longer_lengths(listing(list, entries + 5), pool, exact);
 }
 
 // Tails that are exactly half way between two units on the low side; then two whose low side is below that.
-fn list_half_way(shifts: bool) {
-    list_ample(shifts, 2, 1_250, 0);
-    list_ample(shifts, 2, 2_500, 2_500);
-    list_ample(shifts, 2, 5_000, 625);
-    list_ample(shifts, 2, 5_000, 9_375);
-    list_ample(shifts, 2, 8_750, 0);
-    list_ample(shifts, 3, 2_500, 0);
-    list_ample(shifts, 3, 5_000, 5_000);
-    list_ample(shifts, 5, 2_500, 0);
-    list_ample(shifts, 5, 7_500, 0);
-    list_ample(shifts, 6, 5_000, 0);
-    list_ample(shifts, 10, 5_000, 0);
-    list_ample(shifts, 2, 50, 0);
-    list_ample(shifts, 2, 1_150, 0);
+fn list_half_way(list: List) {
+    list_ample(list, 2, 1_250, 0);
+    list_ample(list, 2, 2_500, 2_500);
+    list_ample(list, 2, 5_000, 625);
+    list_ample(list, 2, 5_000, 9_375);
+    list_ample(list, 2, 8_750, 0);
+    list_ample(list, 3, 2_500, 0);
+    list_ample(list, 3, 5_000, 5_000);
+    list_ample(list, 5, 2_500, 0);
+    list_ample(list, 5, 7_500, 0);
+    list_ample(list, 6, 5_000, 0);
+    list_ample(list, 10, 5_000, 0);
+    list_ample(list, 2, 50, 0);
+    list_ample(list, 2, 1_150, 0);
 }
 
-pub fn lists(shifts: bool) {
-    list_pools(shifts);
-    list_ends(shifts, 1);
-    list_ends(shifts, 20);
-    list_lengths(shifts, 1, 3, 2, 2);
-    list_lengths(shifts, 3, 10, 9, 4);
-    list_lengths(shifts, 64, 2_145, 2_144, 65);
-    no_places(listing(shifts, 0));
-    let list = listing(shifts, ROWS);
-    over_others(list, pool_of(3, 1_000, 3_000));
-    run_over(pool_of(10, 500, 250), list, pool_of(65, 1_000, 3_000));
-    list_half_way(shifts);
+pub fn lists(list: List) {
+    list_pools(list);
+    list_ends(list, 1);
+    list_ends(list, 20);
+    list_lengths(list, 1, 3, 2, 2);
+    list_lengths(list, 3, 10, 9, 4);
+    list_lengths(list, 64, 2_145, 2_144, 65);
+    no_places(listing(list, 0));
+    let call = listing(list, ROWS);
+    over_others(call, pool_of(3, 1_000, 3_000));
+    run_over(pool_of(10, 500, 250), call, pool_of(65, 1_000, 3_000));
+    list_half_way(list);
 }

@@ -3,8 +3,10 @@
 mod edges;
 mod random;
 
+pub use edges::List;
 pub use edges::exact_lengths;
 pub use edges::later_ends;
+pub use edges::list_lengths;
 pub use edges::lists;
 pub use edges::longer_lengths;
 pub use edges::no_places;
@@ -13,6 +15,7 @@ use pool::Answer;
 use pool::Loss;
 use pool::Pool;
 use pool::Tranche;
+pub use random::Calls;
 pub use random::random_cases;
 use trial_support::write;
 use trial_support::write_bits;
@@ -41,6 +44,8 @@ pub enum Call {
     Column(usize),
     Shifts(usize),
     Loss(Tranche),
+    ScreenColumn(usize),
+    ScreenLoss(Tranche),
 }
 
 // A pool for the calls that take no recovery.
@@ -64,7 +69,10 @@ fn write_pool(pool: Pool) {
     write_field(pool.correlation);
 }
 
-fn write_tranche(tranche: Tranche) {
+fn write_loss_call(pool: Pool, tranche: Tranche) {
+    write(b"loss");
+    write_pool(pool);
+    write_field(pool.recovery);
     write(b" tranche");
     write_field(tranche.lower);
     write_field(tranche.upper);
@@ -88,11 +96,14 @@ fn write_call(call: Call, pool: Pool) {
             write(b"shifts");
             write_pool(pool);
         }
-        Call::Loss(tranche) => {
-            write(b"loss");
+        Call::Loss(tranche) => write_loss_call(pool, tranche),
+        Call::ScreenColumn(_) => {
+            write(b"screen column");
             write_pool(pool);
-            write_field(pool.recovery);
-            write_tranche(tranche);
+        }
+        Call::ScreenLoss(tranche) => {
+            write(b"screen ");
+            write_loss_call(pool, tranche);
         }
     }
 }
@@ -106,6 +117,7 @@ fn write_lengths(call: Call, lengths: Lengths) {
     match call {
         Call::Column(places) => write_length(places),
         Call::Shifts(places) => write_length(places),
+        Call::ScreenColumn(places) => write_length(places),
         _ => write(b""),
     }
 }
@@ -240,7 +252,39 @@ fn write_answer(answer: Answer) {
     }
 }
 
+// The library's column, or else the screen's.
+fn column(
+    screen: bool,
+    pool: Pool,
+    low_significands: &mut [u32],
+    high_significands: &mut [u32],
+    low_exponents: &mut [i32],
+    high_exponents: &mut [i32],
+    units: &mut [u32],
+) -> u32 {
+    if screen {
+        screen::column(
+            pool,
+            low_significands,
+            high_significands,
+            low_exponents,
+            high_exponents,
+            units,
+        )
+    } else {
+        pool::column(
+            pool,
+            low_significands,
+            high_significands,
+            low_exponents,
+            high_exponents,
+            units,
+        )
+    }
+}
+
 fn answer_column(
+    screen: bool,
     pool: Pool,
     length: usize,
     low_significands: &mut [u32],
@@ -249,7 +293,8 @@ fn answer_column(
     high_exponents: &mut [i32],
 ) {
     let mut units = [MARK; ROWS];
-    let refusal = pool::column(
+    let refusal = column(
+        screen,
         pool,
         low_significands,
         high_significands,
@@ -299,6 +344,7 @@ fn answer(
         )),
         Call::Row(k) => write_row(pool::row(pool.assets, k, low_significands)),
         Call::Column(length) => answer_column(
+            false,
             pool,
             length,
             low_significands,
@@ -315,6 +361,23 @@ fn answer(
             high_exponents,
         ),
         Call::Loss(tranche) => write_answer(pool::tranche_loss(
+            pool,
+            tranche,
+            low_significands,
+            high_significands,
+            low_exponents,
+            high_exponents,
+        )),
+        Call::ScreenColumn(length) => answer_column(
+            true,
+            pool,
+            length,
+            low_significands,
+            high_significands,
+            low_exponents,
+            high_exponents,
+        ),
+        Call::ScreenLoss(tranche) => write_answer(screen::tranche_loss(
             pool,
             tranche,
             low_significands,

@@ -6,6 +6,14 @@ use pool::Pool;
 use pool::Tranche;
 use trial_support::next;
 
+// Which calls are run: fill, column and loss; the shift list; column and loss of pools of 1 to 20 assets, by the library and on the
+// screen.
+pub enum Calls {
+    Library,
+    Shifts,
+    Screen,
+}
+
 // Basis points: one in eight above 10,000, three in eight at 0, 1 or 10,000, and small numbers more often than by chance.
 fn basis_points(word: u64) -> u32 {
     let kind = word % 16;
@@ -72,6 +80,18 @@ fn random_pool(word: u64) -> Pool {
     }
 }
 
+// Of 1 to 20 assets.
+fn small_pool(word: u64) -> Pool {
+    let second = next(word);
+    let third = next(second);
+    Pool {
+        assets: (1 + (word >> 8) % 20) as u32,
+        probability: basis_points(second),
+        correlation: basis_points(third),
+        recovery: basis_points(next(third)),
+    }
+}
+
 // Every second the narrowest below the largest loss, if that is not 0; else two attachments that do not depend on each other.
 fn random_tranche(word: u64, recovery: u32) -> Tranche {
     if word % 2 == 0 {
@@ -89,24 +109,37 @@ fn random_tranche(word: u64, recovery: u32) -> Tranche {
     }
 }
 
-// Runs the fill, the column and the tranche loss of a random pool, or else its shift list, and gives the word of the next.
-fn case(word: u64, shifts: bool) -> u64 {
-    let other = next(next(next(next(word))));
-    let pool = random_pool(word);
-    if shifts {
-        run_ample(Call::Shifts(ROWS), pool);
-    } else {
-        let tranche = random_tranche(other, pool.recovery);
-        run_ample(Call::Fill, pool);
-        run_ample(Call::Column(ROWS), pool);
-        run_ample(Call::Loss(tranche), pool);
+fn run_calls(calls: Calls, pool: Pool, tranche: Tranche) {
+    match calls {
+        Calls::Library => {
+            run_ample(Call::Fill, pool);
+            run_ample(Call::Column(ROWS), pool);
+            run_ample(Call::Loss(tranche), pool);
+        }
+        Calls::Shifts => run_ample(Call::Shifts(ROWS), pool),
+        Calls::Screen => {
+            run_ample(Call::Column(ROWS), pool);
+            run_ample(Call::ScreenColumn(ROWS), pool);
+            run_ample(Call::Loss(tranche), pool);
+            run_ample(Call::ScreenLoss(tranche), pool);
+        }
     }
+}
+
+// Runs the calls on a random pool and tranche, and gives the word of the next.
+fn case(word: u64, calls: Calls) -> u64 {
+    let other = next(next(next(next(word))));
+    let pool = match calls {
+        Calls::Screen => small_pool(word),
+        _ => random_pool(word),
+    };
+    run_calls(calls, pool, random_tranche(other, pool.recovery));
     next(next(next(other)))
 }
 
-pub fn random_cases(count: u32, shifts: bool) {
+pub fn random_cases(count: u32, calls: Calls) {
     let mut word: u64 = 0x9e37_79b9_7f4a_7c15;
     for _ in 0..count {
-        word = case(word, shifts);
+        word = case(word, calls);
     }
 }

@@ -4,6 +4,7 @@ use pool::Pool;
 use pool::Tranche;
 use trial_pool::Call;
 use trial_pool::Lengths;
+use trial_pool::List;
 use trial_pool::ROWS;
 use trial_pool::exact_lengths;
 use trial_pool::later_ends;
@@ -282,7 +283,7 @@ fn main() {
     fills();
     rows();
     filled_rows();
-    lists(false);
+    lists(List::Column);
     losses();
     digits();
     edges();

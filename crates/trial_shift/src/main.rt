@@ -1,6 +1,8 @@
 // Runs the shift list at the edges of what it accepts, with probability and correlation at and next to their ends, and on random
 // pools, a line for each case. tools/trial_shift.py works the same lines out in exact whole numbers.
 use trial_pool::Call;
+use trial_pool::Calls;
+use trial_pool::List;
 use trial_pool::ROWS;
 use trial_pool::lists;
 use trial_pool::pool_of;
@@ -30,9 +32,9 @@ fn ends(assets: u32) {
 }
 
 fn main() {
-    lists(true);
+    lists(List::Shifts);
     ends(1);
     ends(2);
     ends(64);
-    random_cases(300, true);
+    random_cases(300, Calls::Shifts);
 }

@@ -1,20 +1,20 @@
--- The first ground of two lists, what the inputs of an accepted call are, and when a column is refused as its pool is.
+-- The first ground of two lists, what the inputs of an accepted call are, when a column is refused as its pool is, and when the screen refuses as the library.
 -- Assumes nothing.
 use Prim.Native.Nat.{ℕ, zero, suc, _+_, _*_, _≤_, _<_}
-use mathlib.Core.Path.{_≡_, refl, sym, ap, _∙_}
+use mathlib.Core.Path.{_≡_, refl, sym, ap, subst, _∙_}
 use mathlib.Core.Bool.{Bool, true, false, cond, _&&_, _||_, true≢false}
 use mathlib.Core.List.{List, [], _∷_, _++_}
 use native.Mathlib.Nat.{le-trans, mul-le-mul}
 use native.Mathlib.Omega.{arith}
-use borrow.Author.Tests.{ltb-false, eqb-false, not-false, ltb-true, lt-ltb, le-ltb}
-use lib.Dec.{T, eqb, ltb, ltb→lt, lit≤}
+use borrow.Author.Tests.{ltb-false, eqb-false, not-false, ltb-true, lt-ltb, le-ltb, ne-eqb}
+use lib.Dec.{T, eqb, ltb, ltb→lt, lit<}
 use Rattle.model.specs.Fraction.{whole}
 use Rattle.model.specs.Number.{triangle}
 use Rattle.model.specs.Number.Laws.{triangle-closed, triangle-mono}
 use Rattle.steps.specs.Inputs.{TrancheInRange}
 use Rattle.grounds.specs.Grounds.{Ground, firstOf, firstGround, storePlaces, someShorter, assetsGround, probabilityGround, correlationGround}
-use Rattle.grounds.specs.Grounds.{recoveryGround, upperGround, attachmentsGround, storeGround, entriesGround, rowGround, poolGrounds, trancheGrounds}
-use Rattle.grounds.specs.Grounds.{fillGrounds, rowGrounds, entriesGrounds, columnGrounds, lossGrounds}
+use Rattle.grounds.specs.Grounds.{recoveryGround, upperGround, attachmentsGround, storeGround, entriesGround, rowGround, screenGround, poolGrounds, trancheGrounds}
+use Rattle.grounds.specs.Grounds.{fillGrounds, rowGrounds, entriesGrounds, columnGrounds, lossGrounds, screened, Screens}
 use Rattle.grounds.specs.Grounds.{PoolAccepted, EachAtLeast, FillAccepted, RowAccepted, EntriesAccepted, LossAccepted}
 
 pub store-places : (n : ℕ) → storePlaces n ≡ triangle (suc n)
@@ -39,6 +39,12 @@ first-alone (suc a) b none = refl
 -- The last of a list.
 pub first-last : (a : ℕ) → firstOf a 0 ≡ a
 first-last a = first-alone a 0 (λ _. refl)
+
+-- Where there is a first.
+pub first-some : (a b : ℕ) → (a ≡ 0 → ⊥) → a ≡ firstOf a b
+unfolding firstOf
+first-some zero b some = absurd (some refl)
+first-some (suc a) b some = refl
 
 neither-of : (a b : ℕ) → firstOf a b ≡ 0 → (a ≡ 0) × (b ≡ 0)
 unfolding firstOf
@@ -77,6 +83,10 @@ abbrev NoneApplies : List Ground → Type 0
 NoneApplies [] = Unit {0}
 NoneApplies (g ∷ gs) = (g .applies ≡ false) × NoneApplies gs
 
+both-hold : (s t : Bool) → T (s && t) → T s × T t
+both-hold true t h = (tt, h)
+both-hold false t h = absurd h
+
 none-applies : {r : ℕ} (gs : List Ground) → T (numbered gs) → r ≡ firstGround gs → r ≡ 0 → NoneApplies gs
 unfolding firstGround
 none-applies [] h is none = tt
@@ -85,13 +95,29 @@ none-applies (g ∷ gs) h is none =
     let above = both-hold (ltb 0 (g .number)) (numbered gs) h in
     (off (g .applies) (ltb→lt 0 (g .number) (above .0)) (parts .0), none-applies gs (above .1) refl (parts .1))
   where
-    both-hold : (s t : Bool) → T (s && t) → T s × T t
-    both-hold true t h = (tt, h)
-    both-hold false t h = absurd h
-
     off : {m : ℕ} (t : Bool) → 0 < m → cond t m 0 ≡ 0 → t ≡ false
     off true above e = absurd (omega arith)
     off false above e = refl
+
+-- Every ground has a number below m.
+abbrev numberedBelow : ℕ → List Ground → Bool
+numberedBelow m [] = true
+numberedBelow m (g ∷ gs) = ltb (g .number) m && numberedBelow m gs
+
+first-below : {m : ℕ} (gs : List Ground) → 0 < m → T (numberedBelow m gs) → firstGround gs < m
+unfolding firstGround firstOf
+first-below [] above low = above
+first-below {m} (g ∷ gs) above low =
+    let parts = both-hold (ltb (g .number) m) (numberedBelow m gs) low in
+    number-of (g .applies) (ltb→lt (g .number) m (parts .0)) (first-below gs above (parts .1))
+  where
+    first-of : (x : ℕ) {y : ℕ} → x < m → y < m → firstOf x y < m
+    first-of zero a b = b
+    first-of (suc x) a b = a
+
+    number-of : (t : Bool) {x y : ℕ} → x < m → y < m → firstOf (cond t x 0) y < m
+    number-of true a b = first-of _ a b
+    number-of false a b = b
 
 -- ---- what the inputs of an accepted call are, from the number that its grounds give
 
@@ -177,12 +203,8 @@ loss-accepted most n p ρ R A B lengths is none =
 
 -- Its number is 3 at most.
 pub pool-refusal-at-most : (most n p ρ : ℕ) → firstGround (poolGrounds most n p ρ) ≤ 3
-unfolding firstGround firstOf poolGrounds assetsGround probabilityGround correlationGround
-pool-refusal-at-most most n p ρ = one-of (eqb n 0 || ltb most n) (lit≤ tt) (one-of (ltb whole p) (lit≤ tt) (one-of (ltb whole ρ) (lit≤ tt) (lit≤ tt)))
-  where
-    one-of : {m x y : ℕ} (t : Bool) → suc x ≤ m → y ≤ m → firstOf (cond t (suc x) 0) y ≤ m
-    one-of true a b = a
-    one-of false a b = b
+unfolding poolGrounds assetsGround probabilityGround correlationGround
+pool-refusal-at-most most n p ρ = omega (arith, first-below (poolGrounds most n p ρ) (lit< {n = 4} tt) tt)
 
 none-shorter : {m m′ : ℕ} (ls : List ℕ) → m ≤ m′ → EachAtLeast m′ ls → someShorter m ls ≡ false
 unfolding someShorter
@@ -210,3 +232,71 @@ column-refused-as-pool most n p ρ lengths units store column =
 
     no-column : firstGround (poolGrounds most n p ρ) ≡ 0 → firstGround (entriesGround 8 n units ∷ []) ≡ 0
     no-column none = rw (le-ltb units (n + 1) (omega (arith, few none))) refl
+
+-- ---- the refusals of the screen
+
+-- Where no more assets are given than it takes, the number is the library's.
+pub screens-within : {most limit n library number : ℕ} → n ≤ limit → Screens most limit n library number → number ≡ library
+screens-within within given = given .otherwise (λ eleven. let more = given .only eleven .0 in absurd (omega arith))
+
+pub screens-at : {most limit n library number number′ : ℕ} → number ≡ number′ → Screens most limit n library number′ → Screens most limit n library number
+screens-at {most} {limit} {n} {library} is given = subst (Screens most limit n library) (sym is) given
+
+-- A list that starts with ground 1 and has no other number above 10.
+pub record StartsWithOne (most n : ℕ) (gs : List Ground) : Type 0 where
+  pub rest : List Ground
+  pub is : gs ≡ assetsGround most n ∷ rest
+  pub low : T (numberedBelow 11 rest)
+
+pub column-starts : (most n p ρ : ℕ) (lengths : List ℕ) (units : ℕ) → StartsWithOne most n (columnGrounds most n p ρ lengths units)
+unfolding columnGrounds entriesGrounds fillGrounds poolGrounds probabilityGround correlationGround storeGround entriesGround
+column-starts most n p ρ lengths units = record { rest = _; is = refl; low = tt }
+
+pub loss-starts : (most n p ρ R A B : ℕ) (lengths : List ℕ) → StartsWithOne most n (lossGrounds most n p ρ R A B lengths)
+unfolding lossGrounds trancheGrounds poolGrounds probabilityGround correlationGround recoveryGround upperGround attachmentsGround storeGround
+loss-starts most n p ρ R A B lengths = record { rest = _; is = refl; low = tt }
+
+module _ {most n : ℕ} (limit : ℕ) {gs : List Ground} (starts : StartsWithOne most n gs) where
+  pub screens : Screens most limit n (firstGround gs) (firstGround (screened limit n gs))
+  unfolding firstGround firstOf screened assetsGround screenGround
+  screens = rw (starts .is) (by-tests (eqb n 0 || ltb most n) (ltb limit n) refl refl)
+    where
+      later : ℕ
+      later = firstGround (starts .rest)
+
+      ten : later < 11
+      ten = first-below (starts .rest) (lit< tt) (starts .low)
+
+      in-between : limit < n → n ≤ most → (eqb n 0 || ltb most n) ≡ false
+      in-between more l =
+          let some : n ≡ 0 → ⊥ = λ none. omega arith in
+          rw (ne-eqb n 0 some, le-ltb most n l) refl
+
+      by-tests : (one eleven : Bool) → one ≡ (eqb n 0 || ltb most n) → eleven ≡ ltb limit n
+          → Screens most limit n (firstOf (cond one 1 0) later) (firstOf (cond one 1 0) (firstOf (cond eleven 11 0) later))
+      by-tests true eleven one-is eleven-is = record {
+        eleven = λ more l. absurd (true≢false (one-is ∙ in-between more l));
+        only = λ is. absurd (omega arith);
+        otherwise = λ _. refl;
+      }
+      by-tests false true one-is eleven-is = record {
+        eleven = λ _ _. refl;
+        only = λ _. (ltb-true limit n (sym eleven-is), ltb-false most n (neither (eqb n 0) (ltb most n) (sym one-is) .1));
+        otherwise = λ not. absurd (not refl);
+      }
+      by-tests false false one-is eleven-is = record {
+        eleven = λ more _. absurd (true≢false (sym (lt-ltb limit n more) ∙ sym eleven-is));
+        only = λ is. absurd (omega (arith, ten));
+        otherwise = λ _. refl;
+      }
+
+  -- What refuses before the list goes on.
+  pub screen-refused : {r : ℕ} → r ≡ firstGround (assetsGround most n ∷ screenGround limit n ∷ []) → (r ≡ 0 → ⊥) → r ≡ firstGround (screened limit n gs)
+  unfolding screened
+  screen-refused {r} is some =
+      first-some r (firstGround (starts .rest)) some
+      ∙ rw (is, starts .is) (first-append (assetsGround most n ∷ screenGround limit n ∷ []) (starts .rest))
+
+pub screen-within : {r : ℕ} (most limit n : ℕ) → r ≡ firstGround (assetsGround most n ∷ screenGround limit n ∷ []) → r ≡ 0 → n ≤ limit
+unfolding assetsGround screenGround
+screen-within most limit n is none = ltb-false limit n (none-applies (assetsGround most n ∷ screenGround limit n ∷ []) tt is none .1 .0)

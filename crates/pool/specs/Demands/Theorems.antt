@@ -46,7 +46,7 @@ use Rattle.store.specs.Calls.{LeavesStore, Fills, fillRefusal, HandsRow, rowRef
 use Rattle.pool.specs.Answers.{replyOf, refusalOf}
 use Rattle.pool.specs.Calls.{columnRefusal, Prints, lossRefusal, Wide, PoolHoldsLoss, AnswersLoss, Replies}
 use Rattle.pool.specs.Demands.{BoundDemands, oneHalf, PrintedDemands, oneAndAHalf, Demand3Column, Slices, significandsOn, numberOn, from, TableDemands, StoreDemands, edge, LossDemands, AnswerDemands, exactLoss, refusalIn}
-use Rattle.pool.specs.Demands.{FillDemands, RowDemands, EntriesDemands, ColumnDemands, TrancheDemands}
+use Rattle.pool.specs.Demands.{FillDemands, RowDemands, EntriesDemands, ColumnDemandsBy, ColumnDemands, TrancheDemandsBy, TrancheDemands}
 
 -- The four slices of a store.
 abbrev pub slices : Store → Slices
@@ -59,7 +59,7 @@ slices s = record {
 
 -- ---- the store
 
-bounds-meet : {low high : Kept} {v : Fraction} → Enclosed 100000 low high v → BoundDemands low high v
+bounds-meet : {parts : ℕ} {low high : Kept} {v : Fraction} → Enclosed parts low high v → BoundDemands parts low high v
 bounds-meet enclosed = record {
   two = record { from-below = enclosed .from-below; from-above = enclosed .from-above };
   three = record { apart = enclosed .distance; of-zero = enclosed .of-zero };
@@ -73,13 +73,13 @@ later-filled side n p ρ field old =
     let places : length (stored side p ρ field n) ≡ (n + 1) * (n + 2) / 2 = omega (arith, stored-length side p ρ field n, triangle-closed (suc n)) in
     overwritten-later (stored side p ρ field n) old places
 
-module _ {pool : Pool} {before after : Store} {refusal : ℕ} (leaves : LeavesStore pool before after refusal) where
+module _ {parts : ℕ} {pool : Pool} {before after : Store} {refusal : ℕ} (leaves : LeavesStore (λ _. parts) pool before after refusal) where
   -- A refused call leaves the store as it was.
   store-kept : (refusal ≡ 0 → ⊥) → after ≡ before
   unfolding storeAfter
   store-kept some = by-number refusal leaves some
     where
-      by-number : (r : ℕ) → LeavesStore pool before after r → (r ≡ 0 → ⊥) → after ≡ before
+      by-number : (r : ℕ) → LeavesStore (λ _. parts) pool before after r → (r ≡ 0 → ⊥) → after ≡ before
       by-number zero leaves some = absurd (some refl)
       by-number (suc r) leaves some = leaves .store-is
 
@@ -90,8 +90,8 @@ module _ {pool : Pool} {before after : Store} {refusal : ℕ} (leaves : LeavesSt
     made-on Low = leaves .holds none .made Low
     made-on High = leaves .holds none .made High
 
-    table-meets : TableDemands pool (slices after)
-    unfolding numberAt place distanceFor defaults
+    table-meets : TableDemands pool parts (slices after)
+    unfolding numberAt place defaults
     table-meets =
         let steps = leaves .steps-hold none in
         record {
@@ -108,12 +108,12 @@ module _ {pool : Pool} {before after : Store} {refusal : ℕ} (leaves : LeavesSt
         let is : after ≡ storeAfter (pool .assets) (pool .probability) (pool .correlation) 0 before = rw none at (leaves .store-is) in
         rw is (simp later-filled refl)
 
-  store-meets : StoreDemands pool (slices before) (slices after) refusal
+  store-meets : StoreDemands pool parts (slices before) (slices after) refusal
   store-meets = record { table = table-meets; later = later-meets }
 
   -- With a slice beside the store, whatever grounds the call checks and whatever entries it writes.
   pub entries-meet : {A : Type 0} {grounds : List Ground} (f : ℕ → A) (old : List A) {new : List A} → refusal ≡ firstGround grounds
-      → new ≡ entriesAfter (pool .assets) f refusal old → EntriesDemands pool grounds (slices before) (slices after) old new refusal
+      → new ≡ entriesAfter (pool .assets) f refusal old → EntriesDemands pool parts grounds (slices before) (slices after) old new refusal
   entries-meet f old is entries = record {
     one = record { number = is; untouched = λ some. rw (store-kept some, entries-kept (pool .assets) f old entries some) refl };
     store = store-meets;
@@ -121,7 +121,7 @@ module _ {pool : Pool} {before after : Store} {refusal : ℕ} (leaves : LeavesSt
   }
 
 pub fill-meets : {pool : Pool} {before after : Store} {refusal : ℕ} → Fills pool before after refusal → FillDemands pool (slices before) (slices after) refusal
-unfolding fillRefusal lengths largestPool
+unfolding fillRefusal lengths largestPool distanceFor
 fill-meets fills =
     let leaves = fills .leaves in
     record { one = record { number = fills .refusal-is; untouched = λ some. ap slices (store-kept leaves some) }; store = store-meets leaves }
@@ -140,7 +140,7 @@ row-meets {n} {k} {significands} hands is = record {
   refused = λ some. hands .refused-empty (λ none. some (is ∙ none));
   entries = λ none. hands .accepted-length (sym is ∙ none);
   entry = λ none. hands .entries (sym is ∙ none);
-  of-filled = λ none pool s filled more side same j l.
+  of-filled = λ none parts pool s filled more side same j l.
       let row : k ≤ n = row-accepted largestPool n k (length significands) is none .row in
       hands .entries (sym is ∙ none) j l
       ∙ rw same (significand-on side s (k * (k + 1) / 2 + j) ∙ ap (λ x. x .significand) (filled .made side j k l (omega arith)));
@@ -169,13 +169,19 @@ rows-meet {r} low most holds = record {
   not-below = λ k l. within-weaken most (holds .near k l) .not-below;
 }
 
-pub column-meets : {pool : Pool} {before after : Store} {units units′ : List ℕ} {refusal : ℕ} → Prints pool before after units units′ refusal
-    → ColumnDemands pool (slices before) (slices after) units units′ refusal
-unfolding columnRefusal lengths largestPool tenths tenthsFor oneAndAHalf defaults
-column-meets prints = record {
-  leaves = entries-meet (prints .leaves) _ _ (prints .refusal-is) (prints .units-are);
-  column = λ none. rows-meet _ (record { cross = lit≤ tt }) (prints .holds-column none);
-}
+module _ {pool : Pool} {before after : Store} {units units′ : List ℕ} {refusal : ℕ} where
+  -- Whatever list refuses, at any one distance.
+  pub column-meets-by : {refuses : Pool → Store → List ℕ → ℕ} {parts : ℕ} {grounds : List Ground} → Prints refuses (λ _. parts) pool before after units units′ refusal
+      → refuses pool before units ≡ firstGround grounds → ColumnDemandsBy pool parts grounds (slices before) (slices after) units units′ refusal
+  unfolding tenths tenthsFor oneAndAHalf defaults
+  column-meets-by prints is = record {
+    leaves = entries-meet (prints .leaves) _ _ (prints .refusal-is ∙ is) (prints .units-are);
+    column = λ none. rows-meet _ (record { cross = lit≤ tt }) (prints .holds-column none);
+  }
+
+  pub column-meets : Prints columnRefusal distanceFor pool before after units units′ refusal → ColumnDemands pool (slices before) (slices after) units units′ refusal
+  unfolding columnRefusal lengths largestPool distanceFor
+  column-meets prints = column-meets-by prints refl
 
 -- ---- the loss
 
@@ -186,10 +192,10 @@ either-of x = elim (raised-greater x .2) [
   | inr is ↦ inr (rw is least-shown-value)
 ]
 
-loss-meets : (low high : Kept) (v : Fraction) (loss : Loss) → Says 100000 low high v (lossOf loss) → LossDemands low high loss
+loss-meets : (parts : ℕ) (low high : Kept) (v : Fraction) (loss : Loss) → Says parts low high v (lossOf loss) → LossDemands low high loss
 unfolding lossOf leastShown edge
-loss-meets low high v Untouched says = (says .low-zero, says .high-zero)
-loss-meets low high v (Faint number) says = record {
+loss-meets parts low high v Untouched says = (says .low-zero, says .high-zero)
+loss-meets parts low high v (Faint number) says = record {
   low-below = says .low-below;
   high-not-zero = says .high-not-zero;
   greater = value (raisedToShown high);
@@ -198,7 +204,7 @@ loss-meets low high v (Faint number) says = record {
   from-edge = says .from-least;
   either = either-of high;
 }
-loss-meets low high v (Shown bounds) says =
+loss-meets parts low high v (Shown bounds) says =
     record { low-not-below = says .low-not-below; lower-is = says .lower-is .exact; upper-is = says .upper-is .exact }
 
 module _ (pool : Pool) (tranche : Tranche) (wide : Wide pool tranche) where
@@ -210,33 +216,41 @@ module _ (pool : Pool) (tranche : Tranche) (wide : Wide pool tranche) where
   abbrev lost : Fraction
   lost = exactLoss (pool .assets) (pool .probability) (pool .correlation) (pool .recovery) (tranche .lower) (tranche .upper) wide
 
-  answer-meets : (answer : Answer) → AnswersLoss pool tranche wide (replyOf answer) → AnswerDemands (boundOn Low) (boundOn High) lost answer
-  unfolding replyOf PoolHoldsLoss defaults exactLoss distanceFor
-  answer-meets (Refused number) answers = let never : _≡_ {A = ℕ} 0 1 = cc (answers .reply-is) in absurd (omega arith)
-  answer-meets (Answered loss) answers =
+  answer-meets : (parts : ℕ) (answer : Answer) → AnswersLoss (λ _. parts) pool tranche wide (replyOf answer)
+      → AnswerDemands parts (boundOn Low) (boundOn High) lost answer
+  unfolding replyOf PoolHoldsLoss defaults exactLoss
+  answer-meets parts (Refused number) answers = let never : _≡_ {A = ℕ} 0 1 = cc (answers .reply-is) in absurd (omega arith)
+  answer-meets parts (Answered loss) answers =
       let same : answers .loss ≡ lossOf loss = cc (answers .reply-is) in
       let holds = answers .holds in
       record {
         bounds = bounds-meet (holds .enclosed);
         loss = loss;
         answer-is = refl;
-        says = loss-meets (boundOn Low) (boundOn High) lost loss (rw same at (holds .says));
+        says = loss-meets parts (boundOn Low) (boundOn High) lost loss (rw same at (holds .says));
       }
 
-number-is : (answer : Answer) → refusalIn answer ≡ refusalOf (replyOf answer)
+pub number-is : (answer : Answer) → refusalIn answer ≡ refusalOf (replyOf answer)
 unfolding replyOf refusalOf
 number-is (Refused number) = refl
 number-is (Answered loss) = refl
 
-pub tranche-meets : {pool : Pool} {tranche : Tranche} {before after : Store} (answer : Answer) → Replies pool tranche before after (replyOf answer)
-    → TrancheDemands pool tranche (slices before) (slices after) answer
-unfolding lossRefusal lengths largestPool
-tranche-meets {pool} {tranche} answer replies =
-    let is = number-is answer ∙ replies .refusal-is in
-    let leaves = rw (← is) at (replies .leaves) in
-    record {
-      one = record { number = is; untouched = λ some. ap slices (store-kept leaves some) };
-      store = store-meets leaves;
-      wide = λ none. replies .wide (sym is ∙ none);
-      loss = λ none wide. answer-meets pool tranche wide answer (replies .holds-loss (sym is ∙ none) wide);
-    }
+module _ {pool : Pool} {tranche : Tranche} {before after : Store} (answer : Answer) where
+  -- Whatever list refuses, at any one distance.
+  pub tranche-meets-by : {refuses : Pool → Tranche → Store → ℕ} {parts : ℕ} {grounds : List Ground}
+      → Replies refuses (λ _. parts) pool tranche before after (replyOf answer) → refuses pool tranche before ≡ firstGround grounds
+      → TrancheDemandsBy pool tranche parts grounds (slices before) (slices after) answer
+  tranche-meets-by {parts} replies first =
+      let is = number-is answer ∙ replies .refusal-is in
+      let leaves = rw (← is) at (replies .leaves) in
+      record {
+        one = record { number = is ∙ first; untouched = λ some. ap slices (store-kept leaves some) };
+        store = store-meets leaves;
+        wide = λ none. replies .wide (sym is ∙ none);
+        loss = λ none wide. answer-meets pool tranche wide parts answer (replies .holds-loss (sym is ∙ none) wide);
+      }
+
+  pub tranche-meets : Replies lossRefusal distanceFor pool tranche before after (replyOf answer)
+      → TrancheDemands pool tranche (slices before) (slices after) answer
+  unfolding lossRefusal lengths largestPool distanceFor
+  tranche-meets replies = tranche-meets-by replies refl

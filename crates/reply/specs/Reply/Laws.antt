@@ -13,7 +13,7 @@ use Rattle.model.specs.CorrelatedBinomial.{defaults}
 use Rattle.kept.specs.declared.Side.the-variants.{Low}
 use Rattle.steps.specs.Column.{printedRow, tenths}
 use Rattle.steps.specs.CorrelatedBinomial.{keptDefaults}
-use Rattle.steps.specs.Inputs.{largestPool, tenthsFor}
+use Rattle.steps.specs.Inputs.{largestPool, distanceFor, tenthsFor}
 use Rattle.steps.specs.Promises.{HoldsColumn}
 use Rattle.grounds.specs.Grounds.{firstGround, poolGrounds, EachAtLeast}
 use Rattle.grounds.specs.Grounds.Laws.{column-refused-as-pool}
@@ -39,7 +39,7 @@ carried {Answers} {text} {before} {reply} written answers =
     }
 
 -- With slices that have room for the largest pool, the refusal of a column call is that of its pool.
-pub refused-as-pool : {pool : Pool} {before after : Store} {units units′ : List ℕ} {refusal : ℕ} → Prints pool before after units units′ refusal
+pub refused-as-pool : {pool : Pool} {before after : Store} {units units′ : List ℕ} {refusal : ℕ} → Prints columnRefusal distanceFor pool before after units units′ refusal
     → EachAtLeast (triangle (suc largestPool)) (lengths before) → largestPool < length units
     → refusal ≡ firstGround (poolGrounds largestPool (pool .assets) (pool .probability) (pool .correlation))
 unfolding columnRefusal

@@ -1,12 +1,12 @@
 -- Demands 2 and 3 of the steps, for every pool of up to 64 assets, every default probability p and correlation ρ from 0 to 10,000, every recovery R and every
 -- tranche with B ≤ 10,000 whose width (B − A) × n is above zero, which `tranche-wide` gives for A < B and a pool that is not empty. What the steps make is
--- within the budgets of the model's row, so that the promises of a row in general hold of it.
+-- within the budgets of the model's row, so that the promises of a row in general hold of it, at every distance that these budgets give.
 -- Assumes nothing.
 use Prim.Native.Nat.{ℕ, _-_, _*_, _≤_, _<_}
 use mathlib.Core.Path.{_≡_, refl}
 use mathlib.Core.List.{List}
 use native.Mathlib.Omega.{arith}
-use native.Mathlib.Nat.{le-trans}
+use native.Mathlib.Nat.{le-refl, le-trans}
 use lib.Dec.{lit<, lit≤}
 use lib.ListN.{getD}
 use lib.IntN.{ℤ, pos}
@@ -24,7 +24,7 @@ use Rattle.kept.specs.Accuracy.{precision, BudgetFor}
 use Rattle.kept.specs.Accuracy.Laws.{budget-for-weaken}
 use Rattle.steps.specs.Budgets.{chanceBudget, tailBudget, lossBudget, WithinBudget}
 use Rattle.steps.specs.Counts.{countBudget}
-use Rattle.steps.specs.CorrelatedBinomial.Budgets.{rowBudget, defaultsBudget, poolBudget, FewAssets}
+use Rattle.steps.specs.CorrelatedBinomial.Budgets.{rowBudget, defaultsBudget, poolBudget, BudgetsFor, FewAssets}
 use Rattle.steps.specs.CorrelatedBinomial.Rows.{keptRow}
 use Rattle.steps.specs.CorrelatedBinomial.Rows.Laws.{entry-bound}
 use Rattle.steps.specs.Chances.{keptLoss}
@@ -38,7 +38,7 @@ use Rattle.steps.specs.CorrelatedBinomial.Exponents.Laws.{rows-ranged}
 use Rattle.steps.specs.Loss.{LossAnswer, lossAnswer}
 use Rattle.steps.specs.Promises.{HoldsSteps, HoldsShifts, HoldsLoss}
 use Rattle.steps.specs.Promises.Laws.{steps-ranged, row-tails, row-enclosed, loss-holds, shifts-hold}
-use Rattle.steps.specs.Inputs.{largestPool, distanceFor, tenthsFor, shiftTenths, workingAssets, InRange}
+use Rattle.steps.specs.Inputs.{largestPool, distanceFor, screenPool, screenDistance, tenthsFor, shiftTenths, workingAssets, InRange}
 use Rattle.steps.specs.Inputs.Laws.{range-uncorrelated, pool-works}
 use Rattle.steps.specs.CorrelatedBinomial.{keptDefaults}
 use Rattle.steps.specs.CorrelatedBinomial.Exponents.{PoolNumber, of-rows, of-steps}
@@ -72,6 +72,19 @@ pub few-assets : {n : ℕ} → n ≤ workingAssets → FewAssets n
 unfolding rowBudget precision workingAssets triangle
 few-assets few = let most = triangle-mono few in record { parts = omega arith; places = omega arith; assets = omega arith }
 
+-- Where the budget of so many assets is one for a distance, that of every smaller pool is too.
+budgets-for : {most g n : ℕ} → BudgetFor g (poolBudget most) → n ≤ most → BudgetsFor (λ _. g) n
+unfolding poolBudget defaultsBudget lossBudget chanceBudget countBudget rowBudget
+budgets-for most-fits few = record { budget = λ l. budget-for-weaken (omega (arith, triangle-mono (le-trans l few))) most-fits }
+
+pub pool-budgets : {n : ℕ} → n ≤ largestPool → BudgetsFor distanceFor n
+unfolding distanceFor largestPool poolBudget defaultsBudget lossBudget chanceBudget countBudget rowBudget precision triangle
+pool-budgets = budgets-for (record { positive = lit< tt; small = lit≤ tt })
+
+pub screen-budgets : {n : ℕ} → n ≤ screenPool → BudgetsFor screenDistance n
+unfolding screenDistance screenPool poolBudget defaultsBudget lossBudget chanceBudget countBudget rowBudget precision triangle
+screen-budgets = budgets-for (record { positive = lit< tt; small = lit≤ tt })
+
 module _ {n p ρ : ℕ} where
   -- Every number that the steps make has an exponent from −80,000 to 100.
   pub exponents : InRange workingAssets n p ρ → (side : Side) {x : Kept} → PoolNumber side n p ρ x → Ranged x
@@ -82,24 +95,27 @@ module _ {n p ρ : ℕ} where
     pub within : WithinBudget (rowBudget n) (14 * triangle n) (defaults n p ρ) (λ j. probability p ρ j n) (λ side. keptRow side p ρ n)
     within = pool-within range (few-assets (le-trans (range .assets) pool-works))
 
-    -- The budget of a pool is one for its distance, and that of row k for the distance of row k.
-    pub pool-budget : BudgetFor (distanceFor n) (poolBudget n)
-    unfolding distanceFor largestPool poolBudget defaultsBudget lossBudget chanceBudget countBudget rowBudget precision triangle
-    pool-budget =
-        budget-for-weaken {m = poolBudget largestPool} (omega (arith, triangle-mono (range .assets))) (record { positive = lit< tt; small = lit≤ tt })
+    module _ {g : ℕ → ℕ} (apart : BudgetsFor g n) where
+      -- Both bounds of entry j of row k, with P(j,k) by its closed form.
+      pub entries : {j k : ℕ} → j ≤ k → k ≤ n → Enclosed (g k) (keptRow Low p ρ k j) (keptRow High p ρ k j) (probability p ρ j k)
+      unfolding poolBudget defaultsBudget lossBudget chanceBudget countBudget
+      entries l m =
+          bound-enclosed (budget-for-weaken (omega arith) (apart .budget m)) (λ side. entry-bound side p ρ (range .probability) (range .correlation) l)
 
-    row-budget : {k : ℕ} → k ≤ n → BudgetFor (distanceFor k) (rowBudget k)
-    unfolding distanceFor poolBudget defaultsBudget lossBudget chanceBudget countBudget rowBudget
-    row-budget l = budget-for-weaken (omega (arith, triangle-mono l)) pool-budget
+      -- Both bounds of every chance, tail and tranche loss, and the exponents of all numbers.
+      pub steps-hold : HoldsSteps (g n) (defaults n p ρ) (λ side. keptDefaults side n p ρ) (λ side. PoolNumber side n p ρ)
+      unfolding defaults keptDefaults poolBudget defaultsBudget
+      steps-hold = record {
+        enclosed = row-enclosed within (apart .budget (le-refl n));
+        ranged = pool-ranged range (few-assets (le-trans (range .assets) pool-works));
+      }
 
-    -- Both bounds of entry j of row k, with P(j,k) by its closed form.
-    pub entries : {j k : ℕ} → j ≤ k → k ≤ n → Enclosed (distanceFor k) (keptRow Low p ρ k j) (keptRow High p ρ k j) (probability p ρ j k)
-    entries l m = bound-enclosed (row-budget m) (λ side. entry-bound side p ρ (range .probability) (range .correlation) l)
-
-    -- Both bounds of every chance, tail and tranche loss, and the exponents of all numbers.
-    pub steps-hold : HoldsSteps (distanceFor n) (defaults n p ρ) (λ side. keptDefaults side n p ρ) (λ side. PoolNumber side n p ρ)
-    unfolding defaults keptDefaults poolBudget defaultsBudget
-    steps-hold = record { enclosed = row-enclosed within pool-budget; ranged = pool-ranged range (few-assets (le-trans (range .assets) pool-works)) }
+      -- What holds of the loss that is answered.
+      pub answer : (R A B : ℕ) → B ≤ whole → (wide : 0 < (B - A) * n) {loss : LossAnswer}
+          → loss ≡ lossAnswer (keptLoss Low n (keptDefaults Low n p ρ) R A B wide) (keptLoss High n (keptDefaults High n p ρ) R A B wide)
+          → unfold defaults in HoldsLoss (g n) (defaults n p ρ) (λ side. keptDefaults side n p ρ) R A B wide loss
+      unfolding defaults keptDefaults poolBudget defaultsBudget
+      answer R A B = loss-holds within (apart .budget (le-refl n))
 
     -- The printed tails are at most half a unit above the exact ones and less than 0.8 units below them.
     pub printed : PrintsTails half (tenths 8) (defaults n p ρ) (printedTail n (keptDefaults Low n p ρ))
@@ -110,13 +126,6 @@ module _ {n p ρ : ℕ} where
     pub column : PrintsColumn (tenths (tenthsFor n)) (defaults n p ρ) (printedTail n (keptDefaults Low n p ρ)) (printedRow n (keptDefaults Low n p ρ))
     unfolding defaults plus half tenths tenthsFor
     column = column-weaken (record { cross = lit≤ tt }) (printed-column (keptDefaults Low n p ρ) printed)
-
-    -- What holds of the loss that is answered.
-    pub answer : (R A B : ℕ) → B ≤ whole → (wide : 0 < (B - A) * n) {loss : LossAnswer}
-        → loss ≡ lossAnswer (keptLoss Low n (keptDefaults Low n p ρ) R A B wide) (keptLoss High n (keptDefaults High n p ρ) R A B wide)
-        → unfold defaults in HoldsLoss (distanceFor n) (defaults n p ρ) (λ side. keptDefaults side n p ρ) R A B wide loss
-    unfolding defaults keptDefaults poolBudget defaultsBudget
-    answer R A B = loss-holds within pool-budget
 
 -- The shifts of the printed tails against those of the same pool without correlation. The exact tails at 1 to n add to n × p at either correlation.
 pub shifts : {n p ρ : ℕ} → InRange largestPool n p ρ → 0 < n → {shifts : List ℤ}

@@ -11,9 +11,10 @@ use Rattle.model.specs.Number.{triangle}
 use Rattle.model.specs.Number.Laws.{triangle-mono}
 use Rattle.kept.specs.declared.Side.{Side}
 use Rattle.kept.specs.Rounding.{nought}
+use Rattle.steps.specs.CorrelatedBinomial.Budgets.{BudgetsFor}
 use Rattle.steps.specs.CorrelatedBinomial.Rows.{keptRow}
-use Rattle.steps.specs.CorrelatedBinomial.Theorems.{steps-hold}
-use Rattle.steps.specs.Inputs.{largestPool, InRange}
+use Rattle.steps.specs.CorrelatedBinomial.Theorems.{pool-budgets, steps-hold}
+use Rattle.steps.specs.Inputs.{largestPool, distanceFor, InRange}
 use Rattle.working.specs.Slices.{tabulate, overwritten}
 use Rattle.working.specs.Slices.Laws.{length-tabulate, getD-tabulate}
 use Rattle.rows.specs.Store.{stored}
@@ -86,15 +87,22 @@ module _ (n k : ℕ) (significands : List ℕ) {part : List ℕ} (is : part ≡ 
 -- ---- the store
 
 module _ {pool : Pool} {before after : Store} where
-  pub store-untouched : (refusal : ℕ) → (refusal ≡ 0 → ⊥) → after ≡ before → LeavesStore pool before after refusal
-  unfolding storeAfter
-  store-untouched zero some same = absurd (some refl)
-  store-untouched (suc r) some same = record { store-is = same; holds = λ none. absurd (some none); steps-hold = λ none. absurd (some none) }
+  module _ {g : ℕ → ℕ} where
+    -- What holds of a store follows from which it is, at every distance that the budgets of the pool give.
+    pub store-left : (refusal : ℕ) → after ≡ storeAfter (pool .assets) (pool .probability) (pool .correlation) refusal before
+        → (refusal ≡ 0 → InRange largestPool (pool .assets) (pool .probability) (pool .correlation) × BudgetsFor g (pool .assets))
+        → LeavesStore g pool before after refusal
+    store-left refusal is given = record {
+      store-is = is;
+      holds = λ none. rw (is, none) (filled-holds before (given none .0) (given none .1));
+      steps-hold = λ none. steps-hold (given none .0) (given none .1);
+    }
+
+    pub store-untouched : (refusal : ℕ) → (refusal ≡ 0 → ⊥) → after ≡ before → LeavesStore g pool before after refusal
+    unfolding storeAfter
+    store-untouched zero some same = absurd (some refl)
+    store-untouched (suc r) some same = store-left (suc r) same (λ none. absurd (some none))
 
   pub store-filled : InRange largestPool (pool .assets) (pool .probability) (pool .correlation)
-      → after ≡ storeAfter (pool .assets) (pool .probability) (pool .correlation) 0 before → LeavesStore pool before after 0
-  store-filled range is = record {
-    store-is = is;
-    holds = λ _. rw is (filled-holds before range);
-    steps-hold = λ _. steps-hold range;
-  }
+      → after ≡ storeAfter (pool .assets) (pool .probability) (pool .correlation) 0 before → LeavesStore distanceFor pool before after 0
+  store-filled range is = store-left 0 is (λ _. (range, pool-budgets (range .assets)))

@@ -10,11 +10,12 @@ use Rattle.kept.specs.declared.Kept.{Kept}
 use Rattle.kept.specs.declared.Side.{Side}
 use Rattle.kept.specs.declared.Side.the-variants.{Low, High}
 use Rattle.kept.specs.Rounding.{nought}
+use Rattle.steps.specs.CorrelatedBinomial.Budgets.{BudgetsFor}
 use Rattle.steps.specs.CorrelatedBinomial.Rows.{keptRow}
 use Rattle.steps.specs.Enclosure.{Enclosed}
 use Rattle.steps.specs.CorrelatedBinomial.Exponents.{is-entry, of-rows}
 use Rattle.steps.specs.CorrelatedBinomial.Theorems.{entries, exponents}
-use Rattle.steps.specs.Inputs.{largestPool, distanceFor, InRange}
+use Rattle.steps.specs.Inputs.{largestPool, InRange}
 use Rattle.steps.specs.Inputs.Laws.{working-range}
 use Rattle.working.specs.Slices.{SideStore, numberAt}
 use Rattle.rows.specs.Store.{filledSide}
@@ -43,10 +44,10 @@ module _ (n p ρ : ℕ) where
   side-filled Low s l m = number-filled Low (s .low) l m
   side-filled High s l m = number-filled High (s .high) l m
 
-pub filled-holds : {n p ρ : ℕ} (s : Store) → InRange largestPool n p ρ → HoldsEntries n p ρ distanceFor (storeAfter n p ρ 0 s)
+pub filled-holds : {g : ℕ → ℕ} {n p ρ : ℕ} (s : Store) → InRange largestPool n p ρ → BudgetsFor g n → HoldsEntries n p ρ g (storeAfter n p ρ 0 s)
 unfolding sideOf
-filled-holds {n} {p} {ρ} s range = record {
+filled-holds {n} {p} {ρ} s range apart = record {
   made = λ side j k l m. side-filled n p ρ side s l m;
-  enclosed = λ j k l m. enclosed-same (side-filled n p ρ Low s l m) (side-filled n p ρ High s l m) (entries range l m);
+  enclosed = λ j k l m. enclosed-same (side-filled n p ρ Low s l m) (side-filled n p ρ High s l m) (entries range apart l m);
   ranged = λ side j k l m. rw (side-filled n p ρ side s l m) (exponents (working-range range) side (of-rows (is-entry k j m l)));
 }

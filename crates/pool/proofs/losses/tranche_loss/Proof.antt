@@ -1,18 +1,19 @@
 -- `tranche_loss` meets its contract.
 -- Assumes nothing.
-use mathlib.Core.Path.{_≡_, refl, sym, ap, _∙_}
+use mathlib.Core.Path.{_≡_, refl, sym, _∙_}
 use borrow.Author.Needs.{needs}
 use native.Mathlib.Omega.{arith}
 use Rattle.steps.specs.Inputs.{largestPool}
 use Rattle.grounds.specs.Grounds.{fourLengths, LossAccepted}
 use Rattle.grounds.specs.Grounds.Laws.{loss-accepted}
 use Rattle.store.specs.Stores.{Store, store, lengths}
-use Rattle.store.specs.Calls.Laws.{store-untouched, store-filled}
-use Rattle.pool.specs.Answers.{refused, replyOf, refusalOf}
+use Rattle.store.specs.Calls.Laws.{store-filled}
+use Rattle.pool.specs.Answers.{replyOf, refusalOf}
 use Rattle.steps.specs.CorrelatedBinomial.{keptDefaults}
 use Rattle.steps.specs.CorrelatedBinomial.Rows.{keptRow}
+use Rattle.steps.specs.CorrelatedBinomial.Theorems.{pool-budgets}
 use Rattle.pool.specs.Calls.{lossRefusal}
-use Rattle.pool.specs.Calls.Laws.{tranche-is-ready, loss-wide, answers-loss}
+use Rattle.pool.specs.Calls.Laws.{tranche-is-ready, loss-wide, answers-loss, replies-untouched}
 use Rattle.pool.proofs.losses.tranche_loss.Statement.{statement}
 use Rattle.pool.proofs.losses.tranche_loss.Tie as tie
 
@@ -37,16 +38,8 @@ unfolding lossRefusal
 accepted c = loss-accepted _ _ _ _ _ _ _ _ (number-is (c .before)) (goes-on c)
 
 returns : tie.Need-returns
-unfolding replyOf refusalOf
-returns c =
-    let is = number-is (c .before) in
-    record {
-      refusal-is = is;
-      refused-is = λ _. ap refused is;
-      leaves = store-untouched _ (λ none. omega (arith, is ∙ none)) refl;
-      wide = λ none. absurd (omega (arith, is ∙ none));
-      holds-loss = λ none. absurd (omega (arith, is ∙ none));
-    }
+unfolding replyOf
+returns c = replies-untouched (number-is (c .before)) (λ none. omega arith)
 
 tranche-loss-requires : tie.Need-tranche-loss-requires
 tranche-loss-requires c κs =
@@ -70,7 +63,7 @@ returns-2 c =
       leaves = rw none (store-filled (given .fill .pool .range) (rows .store-is));
       wide = λ _. loss-wide _ _ (given .fill .pool) (given .tranche);
       holds-loss = λ _ wide.
-          answers-loss _ _ (given .fill .pool) (given .tranche) wide refl (c .tranche-loss .ensures .answer-is (λ side. keptRow side (pool .probability) (pool .correlation) (pool .assets)) (rows .low-row) (rows .high-row) wide);
+          answers-loss _ _ (given .fill .pool) (given .tranche) (pool-budgets (given .fill .pool .range .assets)) wide refl (c .tranche-loss .ensures .answer-is (λ side. keptRow side (pool .probability) (pool .correlation) (pool .assets)) (rows .low-row) (rows .high-row) wide);
     }
 
 pub tranche-loss-spec : {M : Type 1} → statement M

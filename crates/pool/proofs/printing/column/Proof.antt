@@ -1,6 +1,6 @@
 -- `column` meets its contract.
 -- Assumes nothing.
-use mathlib.Core.Path.{_≡_, refl, sym, _∙_}
+use mathlib.Core.Path.{_≡_, sym, _∙_}
 use borrow.Author.Needs.{needs}
 use native.Mathlib.Omega.{arith}
 use lib.Dec.{lit<}
@@ -9,11 +9,10 @@ use Rattle.steps.specs.Inputs.{largestPool}
 use Rattle.grounds.specs.Grounds.{columnGrounds, fourLengths, EntriesAccepted}
 use Rattle.grounds.specs.Grounds.Laws.{entries-accepted}
 use Rattle.steps.specs.CorrelatedBinomial.{keptDefaults}
-use Rattle.working.specs.Slices.Laws.{entries-untouched}
 use Rattle.store.specs.Stores.{store, lengths}
-use Rattle.store.specs.Calls.Laws.{store-untouched, store-filled}
+use Rattle.store.specs.Calls.Laws.{store-filled}
 use Rattle.pool.specs.Calls.{columnRefusal}
-use Rattle.pool.specs.Calls.Laws.{column-is-ready, printed-holds}
+use Rattle.pool.specs.Calls.Laws.{column-is-ready, printed-holds, prints-untouched}
 use Rattle.pool.proofs.printing.column.Statement.{statement}
 use Rattle.pool.proofs.printing.column.Tie as tie
 
@@ -29,12 +28,7 @@ accepted c = entries-accepted 8 _ _ _ _ _ _ (lit< tt) (c .before .column-refusal
 
 refused : tie.Need-returns
 unfolding columnRefusal lengths store fourLengths largestPool
-refused c = record {
-  refusal-is = c .before .column-refusal .ensures;
-  leaves = store-untouched (c .before .column-refusal .result) (λ none. omega arith) refl;
-  units-are = entries-untouched _ _ _ (c .before .column-refusal .result) (λ none. omega arith);
-  holds-column = λ none. absurd (omega arith);
-}
+refused c = prints-untouched (c .before .column-refusal .ensures) (λ none. omega arith)
 
 print-column-requires : tie.Need-print-column-requires
 print-column-requires c κs =

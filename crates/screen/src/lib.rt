@@ -1,0 +1,71 @@
+// A quote screen for small pools: column and tranche loss as the library gives them, for at most 20 assets. Any numbers and slices of
+// any length may be given. A call answers, or refuses by the number of the first ground that applies and leaves every slice
+// untouched.
+use pool::Answer;
+use pool::Pool;
+use pool::Tranche;
+use steps::LARGEST_POOL;
+ghost use Rattle.store.specs.Stores.{store};
+ghost use Rattle.pool.specs.Answers.{replyOf};
+ghost use Rattle.screen.specs.Calls.{ScreenPrints, ScreenReplies};
+
+// The most assets of a pool on the screen.
+pub const SCREEN_POOL: u32 = 20;
+
+// The column of the pool, as `pool::column` prints it. Refuses by 11 above 20 assets, directly after 1.
+pub fn column(
+    pool: Pool,
+    low_significands: &mut [u32],
+    high_significands: &mut [u32],
+    low_exponents: &mut [i32],
+    high_exponents: &mut [i32],
+    units: &mut [u32],
+) -> u32
+    ensures { λ r. ⌜ ScreenPrints pool
+        (store (now («low_significands» .entry)) (now («high_significands» .entry)) (now («low_exponents» .entry)) (now («high_exponents» .entry)))
+        (store (now («low_significands» .exit)) (now («high_significands» .exit)) (now («low_exponents» .exit)) (now («high_exponents» .exit)))
+        (now (units .entry))
+        (now (units .exit))
+        r ⌝ }
+{
+    let refusal = grounds::screen_refusal(LARGEST_POOL, SCREEN_POOL, pool.assets);
+    if refusal != 0 {
+        return refusal;
+    }
+    pool::column(
+        pool,
+        low_significands,
+        high_significands,
+        low_exponents,
+        high_exponents,
+        units,
+    )
+}
+
+// The expected loss of a tranche of the pool, as `pool::tranche_loss` answers it. Refuses by 11 above 20 assets, directly after 1.
+pub fn tranche_loss(
+    pool: Pool,
+    tranche: Tranche,
+    low_significands: &mut [u32],
+    high_significands: &mut [u32],
+    low_exponents: &mut [i32],
+    high_exponents: &mut [i32],
+) -> Answer
+    ensures { λ r. ⌜ ScreenReplies pool tranche
+        (store (now («low_significands» .entry)) (now («high_significands» .entry)) (now («low_exponents» .entry)) (now («high_exponents» .entry)))
+        (store (now («low_significands» .exit)) (now («high_significands» .exit)) (now («low_exponents» .exit)) (now («high_exponents» .exit)))
+        (replyOf r) ⌝ }
+{
+    let refusal = grounds::screen_refusal(LARGEST_POOL, SCREEN_POOL, pool.assets);
+    if refusal != 0 {
+        return Answer::Refused(refusal);
+    }
+    pool::tranche_loss(
+        pool,
+        tranche,
+        low_significands,
+        high_significands,
+        low_exponents,
+        high_exponents,
+    )
+}

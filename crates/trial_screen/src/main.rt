@@ -1,0 +1,140 @@
+// Runs the calls of the quote screen around its ceiling, at the edges of what they accept, and on random pools of up to 20 assets
+// beside the library's calls, a line for each case. tools/trial_screen.py works the same lines out in exact whole numbers.
+use pool::Pool;
+use pool::Tranche;
+use trial_pool::Call;
+use trial_pool::Calls;
+use trial_pool::Lengths;
+use trial_pool::List;
+use trial_pool::ROWS;
+use trial_pool::exact_lengths;
+use trial_pool::later_ends;
+use trial_pool::list_lengths;
+use trial_pool::lists;
+use trial_pool::longer_lengths;
+use trial_pool::over_others;
+use trial_pool::pool_of;
+use trial_pool::random_cases;
+use trial_pool::run;
+use trial_pool::run_ample;
+
+fn column(assets: u32, probability: u32, correlation: u32) {
+    run_ample(
+        Call::ScreenColumn(ROWS),
+        pool_of(assets, probability, correlation),
+    );
+}
+
+// A pool of probability 1,000 and correlation 3,000.
+fn pool(assets: u32, recovery: u32) -> Pool {
+    Pool {
+        assets,
+        probability: 1_000,
+        correlation: 3_000,
+        recovery,
+    }
+}
+
+fn loss(lower: u32, upper: u32) -> Call {
+    Call::ScreenLoss(Tranche { lower, upper })
+}
+
+fn none() -> Lengths {
+    Lengths(0, 0, 0, 0)
+}
+
+// Nothing wrong, then everything.
+fn around(assets: u32) {
+    let wrong = Pool {
+        assets,
+        probability: 10_001,
+        correlation: 10_001,
+        recovery: 10_001,
+    };
+    column(assets, 1_000, 3_000);
+    run_ample(loss(1_000, 3_000), pool(assets, 4_000));
+    run(Call::ScreenColumn(0), wrong, none());
+    run(loss(10_001, 10_001), wrong, none());
+}
+
+// One thing wrong at a time.
+fn each_wrong(assets: u32) {
+    column(assets, 10_001, 3_000);
+    column(assets, 1_000, 10_001);
+    run(Call::ScreenColumn(ROWS), pool(assets, 0), none());
+    run_ample(Call::ScreenColumn(0), pool(assets, 0));
+    run_ample(loss(0, 10_000), pool_of(assets, 10_001, 3_000));
+    run_ample(loss(0, 10_000), pool_of(assets, 1_000, 10_001));
+    run_ample(loss(0, 10_000), pool(assets, 10_001));
+    run_ample(loss(0, 10_001), pool(assets, 4_000));
+    run_ample(loss(3_000, 3_000), pool(assets, 4_000));
+    run(loss(0, 10_000), pool(assets, 4_000), none());
+}
+
+// Two things wrong: the first ground in the order is given.
+fn two_wrong(assets: u32) {
+    column(assets, 10_001, 10_001);
+    run(
+        Call::ScreenColumn(ROWS),
+        pool_of(assets, 1_000, 10_001),
+        none(),
+    );
+    run(Call::ScreenColumn(0), pool(assets, 0), none());
+    run_ample(loss(0, 10_000), pool_of(assets, 10_001, 10_001));
+    run_ample(
+        loss(0, 10_000),
+        Pool {
+            assets,
+            probability: 1_000,
+            correlation: 10_001,
+            recovery: 10_001,
+        },
+    );
+    run_ample(loss(0, 10_001), pool(assets, 10_001));
+    run_ample(loss(10_001, 10_001), pool(assets, 4_000));
+    run(loss(3_000, 3_000), pool(assets, 4_000), none());
+}
+
+// A tranche at the edges of its grounds.
+fn tranches(assets: u32) {
+    run_ample(loss(0, 10_000), pool(assets, 10_000));
+    run_ample(loss(9_999, 10_000), pool(assets, 0));
+    run_ample(loss(2_999, 3_000), pool(assets, 4_000));
+    run_ample(loss(6_000, 10_000), pool(assets, 4_000));
+}
+
+// Also on the stores of other pools, which a refusal leaves.
+fn losses(assets: u32, exact: usize, short: usize) {
+    let pool = pool(assets, 4_000);
+    tranches(assets);
+    later_ends(loss(1_000, 3_000), assets);
+    exact_lengths(loss(1_000, 3_000), pool, exact, short);
+    over_others(loss(1_000, 3_000), pool);
+}
+
+fn edges() {
+    around(0);
+    around(1);
+    around(20);
+    around(21);
+    around(64);
+    around(65);
+    around(0xffff_ffff);
+    each_wrong(20);
+    each_wrong(21);
+    each_wrong(64);
+    each_wrong(65);
+    two_wrong(20);
+    lists(List::ScreenColumn);
+    list_lengths(List::ScreenColumn, 20, 231, 230, 21);
+    list_lengths(List::ScreenColumn, 21, 253, 252, 22);
+    losses(1, 3, 2);
+    losses(20, 231, 230);
+    losses(21, 253, 252);
+    longer_lengths(loss(1_000, 3_000), pool(20, 4_000), 231);
+}
+
+fn main() {
+    edges();
+    random_cases(300, Calls::Screen);
+}
