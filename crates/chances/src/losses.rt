@@ -14,16 +14,16 @@ ghost use Rattle.steps.specs.Inputs.{workingAssets, TrancheInRange};
 ghost use Rattle.steps.specs.Loss.{lossAnswer, raisedToShown};
 ghost use Rattle.chances.specs.Loss.{LossReady, LossMade, BoundReady, BoundMade, Answerable, lossOf, TrancheReady, TrancheAnswered};
 
-// The loss units of so many defaults among n assets: what is lost, cut at the upper attachment, less the lower one.
+// The loss units of so many defaults among n assets, in the order of Moody's formula: what is lost less the lower attachment, raised to zero, cut to the width.
 fn loss_units(n: u32, defaults: u32, recovery: u32, lower: u32, upper: u32) -> u32
     requires { ⌜ TrancheInRange recovery lower upper ⌝ ∗ ⌜ n ≤ workingAssets ⌝ ∗ ⌜ defaults ≤ n ⌝ }
     ensures { λ r. ⌜ r ≡ lossUnits n recovery lower upper defaults ⌝ }
 {
-    let lost = defaults * (WHOLE - recovery);
-    let most = upper * n;
-    let cut = if lost > most { most } else { lost };
-    let least = lower * n;
-    if cut < least { 0 } else { cut - least }
+    let lost = (defaults * (WHOLE - recovery)) as i32;
+    let above = lost - (lower * n) as i32;
+    let raised = if above < 0 { 0 } else { above as u32 };
+    let width = (upper - lower) * n;
+    if raised > width { width } else { raised }
 }
 
 // Chance times loss units, added for 0 to n defaults, divided by the width of the tranche.

@@ -1,12 +1,12 @@
 -- A row of chances in general: the chances of 0 to n defaults, as numerators over one denominator. Tails, mean and tranche losses are defined for
 -- any such row, whatever model it comes from.
 -- Assumes nothing.
-use Prim.Native.Nat.{ℕ, suc, _*_, _-_, _<_}
+use Prim.Native.Nat.{ℕ, suc, _*_, _-_, _<_, min}
 use mathlib.Core.Path.{_≡_}
 use native.Mathlib.Nat.{mul-pos}
-use lib.IntN.{pos, _-ℤ_}
+use lib.IntN.{ℤ, pos, _-ℤ_, _*ℤ_}
 use Rattle.model.specs.Number.{sum, sumBetween, cut, raise}
-use Rattle.model.specs.Fraction.{Fraction, complement}
+use Rattle.model.specs.Fraction.{Fraction, whole}
 pub mod Laws
 
 pub record Chances : Type 0 where
@@ -44,10 +44,19 @@ mean r = share r (sum (suc (r .assets)) (λ j. j * r .numerator j))
 unfoldable pub tailsTotal : Chances → Fraction
 tailsTotal r = share r (sum (r .assets) (λ i. tailNumerator r (suc i)))
 
--- The loss units of X defaults among n assets, for recovery R and a tranche from A to B, in basis points: what the defaults lose, less A × n. That is an
--- integer, at most the width (B − A) × n, and none is below zero.
+-- What X defaults among n assets lose at recovery R, less the lower attachment A: X × (10,000 − R) − A × n. Both differences are integers, and so is the
+-- product: at a recovery above 10,000 each default counts for 10,000 − R, which is below zero.
+unfoldable pub lossAbove : (n R A X : ℕ) → ℤ
+lossAbove n R A X = pos X *ℤ (pos whole -ℤ pos R) -ℤ pos (A * n)
+
+-- The loss units of X defaults among n assets, for recovery R and a tranche from A to B, in basis points. In the order of Moody's formula: the attachment is
+-- subtracted, the difference is raised to zero, and what that gives is cut to the width (B − A) × n.
 unfoldable pub lossUnits : (n R A B X : ℕ) → ℕ
-lossUnits n R A B X = raise (cut ((B - A) * n) (pos (X * complement R) -ℤ pos (A * n)))
+lossUnits n R A B X = min (raise (lossAbove n R A X)) ((B - A) * n)
+
+-- The same in the order of the scope paper: the difference is cut to the width, and then raised to zero. `loss-units-cut-first` shows the two equal.
+unfoldable pub lossUnitsCutFirst : (n R A B X : ℕ) → ℕ
+lossUnitsCutFirst n R A B X = raise (cut ((B - A) * n) (lossAbove n R A X))
 
 -- The sum over X from 0 to m − 1 of chance times loss units, over the row's denominator.
 unfoldable pub lossNumerator : (r : Chances) (R A B m : ℕ) → ℕ

@@ -6,10 +6,10 @@ use mathlib.Core.Path.{_≡_, refl}
 use lib.Dec.{lit<}
 use lib.IntN.{ℤ, pos, negsuc}
 use lib.Ieee.{size}
-use Rattle.model.specs.Number.{choose, cut, raise}
+use Rattle.model.specs.Number.{choose, raise}
 use Rattle.model.specs.Fraction.{integer, plus, times, divided, whole, complement, over}
 use Rattle.model.specs.Passes.{pass, passed}
-use Rattle.model.specs.Chances.{lossUnits}
+use Rattle.model.specs.Chances.{lossAbove, lossUnits}
 use Rattle.kept.specs.declared.Kept.{Kept}
 use Rattle.kept.specs.declared.Side.{Side}
 use Rattle.kept.specs.declared.Side.the-variants.{Low, High}
@@ -92,7 +92,7 @@ pub cases :
     × (printedOf 3 500 500 3 ≡ 70)
     -- A row of 1,253.91 units, the difference of its tails.
     × (rowOf 3 500 500 2 ≡ 1253)
-unfolding scaled nought unity increment carry round roundedProduct roundedSum roundedQuotient ofInteger ofBasisPoints size choose cut raise integer plus times divided whole complement over pass passed lossUnits constant keptConditional keptJoint keptPower keptWeight keptPassStep keptRow keptTotal keptCount keptChance keptChances keptTail keptTerm keptLoss unitsOfCertainty exactUnits half wholeOf inUnits printedTail printedRow tailShift keptDefaults leastShown belowShown keptLeastShown raisedToShown lossAnswer
+unfolding scaled nought unity increment carry round roundedProduct roundedSum roundedQuotient ofInteger ofBasisPoints size choose raise integer plus times divided whole complement over pass passed lossAbove lossUnits constant keptConditional keptJoint keptPower keptWeight keptPassStep keptRow keptTotal keptCount keptChance keptChances keptTail keptTerm keptLoss unitsOfCertainty exactUnits half wholeOf inUnits printedTail printedRow tailShift keptDefaults leastShown belowShown keptLeastShown raisedToShown lossAnswer
 cases = (
   (refl, refl),
   (refl, refl),

@@ -1,18 +1,28 @@
--- Loss units in unsigned words, and the running total of an expected loss.
+-- The difference of two words raised to zero, and the running total of an expected loss.
 -- Assumes nothing.
-use Prim.Native.Nat.{ℕ, suc, _+_, _-_, _*_, _^_, _≤_, _<_, min}
-use mathlib.Core.Path.{_≡_, ap, _∙_}
+use Prim.Native.Nat.{ℕ, suc, _+_, _-_, _*_, _^_, _≤_, _<_}
+use mathlib.Core.Path.{_≡_, refl, sym, ap, _∙_}
+use mathlib.Core.Bool.{true, false, true≢false}
 use mathlib.Core.List.{List}
 use native.Mathlib.Nat.{mul-le-mul}
 use native.Mathlib.Numerals.{add-one}
 use native.Mathlib.Omega.{arith}
+use borrow.Author.Tests.{ltb-true}
+use lib.Dec.{T}
+use lib.IntN.{ℤ, pos, negsuc, natAbs, _-ℤ_}
 use lib.ListN.{getD}
-use Rattle.model.specs.Fraction.{whole, complement}
+use lib.Signed.{ltZ, nonNeg}
+use mir.Syntax.{w32}
+use mir.Val.{Fits, toZ, ofZ}
+use Rattle.model.specs.Fraction.{whole}
+use Rattle.model.specs.Number.{raise}
+use Rattle.model.specs.Number.Laws.{raised-minus}
 use Rattle.model.specs.Chances.{lossUnits}
-use Rattle.model.specs.Chances.Laws.{loss-units-whole, tranche-wide}
+use Rattle.model.specs.Chances.Laws.{tranche-wide}
 use Rattle.kept.specs.declared.Kept.{Kept}
 use Rattle.kept.specs.declared.Side.{Side}
 use Rattle.kept.specs.Rounding.{Operand, ofInteger, roundedProduct, roundedSum, roundedQuotient}
+use Rattle.kept.specs.Rounding.Exponents.{difference-back}
 use Rattle.steps.specs.Chances.{keptTotal, keptChances, keptTerm, keptLoss}
 use Rattle.steps.specs.Exponents.Laws.{ranged-operand}
 use Rattle.steps.specs.Numbers.{is-chance, is-units, is-term, is-total, of-chances, of-losses}
@@ -22,16 +32,46 @@ use Rattle.chances.specs.Loss.{LossReady, LossMade, BoundReady}
 
 -- ---- loss units
 
--- The product of two numbers of basis points fits a word.
-pub basis-points-word : {x y : ℕ} → x ≤ whole → y ≤ whole → x * y < 2 ^ 32
+-- The product of two numbers of basis points fits an i32, and so a word.
+pub basis-points-signed : {x y : ℕ} → x ≤ whole → y ≤ whole → x * y < 2 ^ 31
 unfolding whole
-basis-points-word l m = omega (arith, mul-le-mul l m)
+basis-points-signed l m = omega (arith, mul-le-mul l m)
 
--- Cut at B × n before A × n is taken off.
-pub loss-units-cut : (n R A B X : ℕ) → A < B → lossUnits n R A B X ≡ min (X * complement R) (B * n) - A * n
-loss-units-cut n R A B X l =
-    let width : B - A + A ≡ B = omega arith in
-    loss-units-whole n R A B X ∙ omega (arith, ap (λ z. z * n) width)
+pub basis-points-word : {x y : ℕ} → x ≤ whole → y ≤ whole → Fits w32 (x * y)
+basis-points-word l m = record { fits = omega (arith, basis-points-signed l m) }
+
+-- a − b as an i32.
+abbrev difference : ℕ → ℕ → ℤ
+difference a b = toZ w32 (ofZ w32 (toZ w32 a -ℤ toZ w32 b))
+
+raised-below : (x : ℤ) → ltZ x (pos 0) ≡ true → raise x ≡ 0
+unfolding raise
+raised-below (pos a) test = omega (arith, ltb-true a 0 test)
+raised-below (negsuc a) test = refl
+
+raised-same : (x : ℤ) → ltZ x (pos 0) ≡ false → x ≡ pos (raise x)
+unfolding raise
+raised-same (pos a) test = refl
+raised-same (negsuc a) test = absurd (true≢false test)
+
+module _ {a b : ℕ} (l : a < 2 ^ 31) (m : b < 2 ^ 31) where
+  raised-difference : raise (difference a b) ≡ a - b
+  unfolding raise
+  raised-difference = ap raise (difference-back l m) ∙ raised-minus (pos a) b
+
+  -- Where the difference is below zero, nothing is left of a.
+  pub difference-below : ltZ (difference a b) (pos 0) ≡ true → a - b ≡ 0
+  difference-below test = sym raised-difference ∙ raised-below (difference a b) test
+
+  difference-same : ltZ (difference a b) (pos 0) ≡ false → difference a b ≡ pos (a - b)
+  difference-same test = raised-same (difference a b) test ∙ ap pos raised-difference
+
+  -- Where it is not, it may be cast to a word, and is the difference of whole numbers.
+  pub difference-cast : ltZ (difference a b) (pos 0) ≡ false → T (nonNeg (difference a b)) × Fits w32 (natAbs (difference a b))
+  difference-cast test = rw (difference-same test) (tt, record { fits = omega arith })
+
+  pub difference-whole : ltZ (difference a b) (pos 0) ≡ false → natAbs (difference a b) ≡ a - b
+  difference-whole test = ap natAbs (difference-same test)
 
 -- ---- the running total
 

@@ -1,10 +1,10 @@
--- Sums and differences of exponents within their reach.
+-- Sums and differences of exponents within their reach, and the difference of two words.
 -- Assumes nothing.
-use Prim.Native.Nat.{ℕ, zero, suc, _+_, _≤_, _<_, _^_, suc-le-suc}
-use mathlib.Core.Path.{_≡_, refl, sym}
+use Prim.Native.Nat.{ℕ, zero, suc, _+_, _-_, _≤_, _<_, _^_, suc-le-suc}
+use mathlib.Core.Path.{_≡_, refl, sym, ap, ap₂, _∙_}
 use mathlib.Core.Bool.{true, true≢false}
 use native.Mathlib.Decide.{decLe}
-use native.Mathlib.Nat.{le-of-lt, lt-of-not-le}
+use native.Mathlib.Nat.{le-of-eq, le-of-lt, lt-of-not-le}
 use native.Mathlib.Omega.{arith}
 use lib.Dec.{T, leb→le, le→leb}
 use lib.Signed.{mag, _≤ℤ_, ltZ, nonNeg}
@@ -12,7 +12,8 @@ use lib.IntN.{ℤ, pos, negsuc, negℤ, natAbs, subℕ, _+ℤ_, _-ℤ_}
 use borrow.Author.Tests.{ltb-true, lt-ltb, le-ltb}
 use mir.Syntax.{w32}
 use mir.Val.{SFits, toZ, ofZ}
-use mir.Facts.{toZ-ofZ}
+use mir.Facts.{toZ-ofZ, toZ-pos}
+use Rattle.model.specs.Number.Laws.{difference-size}
 use Rattle.kept.specs.Rounding.{Reach}
 
 difference : (a b : ℕ) → natAbs (subℕ a b) ≤ a + b
@@ -55,6 +56,21 @@ reach-back less r = toZ-ofZ (reach-fits less r)
 -- So is the result of a call.
 pub result-back : (e : ℤ) → mag e < 2 ^ 31 → toZ w32 (ofZ w32 e) ≡ e
 result-back e fits = toZ-ofZ (record { sfits = fits })
+
+-- ---- the difference of two words, as an i32
+
+module _ {a b : ℕ} (l : a < 2 ^ 31) (m : b < 2 ^ 31) where
+  words : toZ w32 a -ℤ toZ w32 b ≡ pos a -ℤ pos b
+  words = ap₂ _-ℤ_ (toZ-pos w32 l) (toZ-pos w32 m)
+
+  word-fits : SFits w32 (pos a -ℤ pos b)
+  word-fits = reach-fits {n = (a - b) + (b - a)} (omega arith) (record { within = le-of-eq (difference-size a b) })
+
+  pub difference-fits : SFits w32 (toZ w32 a -ℤ toZ w32 b)
+  difference-fits = rw words word-fits
+
+  pub difference-back : toZ w32 (ofZ w32 (toZ w32 a -ℤ toZ w32 b)) ≡ pos a -ℤ pos b
+  difference-back = ap (λ z. toZ w32 (ofZ w32 z)) words ∙ toZ-ofZ word-fits
 
 -- ---- two exponents in order
 

@@ -1,16 +1,15 @@
 -- Laws of tails, mean and expected loss, for a row of chances in general.
 -- Assumes nothing.
 use Prim.Native.Nat.{ℕ, zero, suc, _+_, _*_, _-_, _≤_, _<_, min}
-use mathlib.Core.Path.{_≡_, refl, ap}
+use mathlib.Core.Path.{_≡_, refl, ap, _∙_}
 use native.Mathlib.Omega.{arith}
 use native.Mathlib.Decide.{decLe}
-use native.Mathlib.Nat.{add-zero, zero-add, add-suc, sub-zero, add-sub-of-le, le-refl, le-trans, min-le-right, mul-pos, mul-le-mul-left, mul-le-mul-right}
-use lib.IntN.{pos, _-ℤ_}
-use borrow.Author.Tests.{lt-ltb, le-ltb}
-use Rattle.model.specs.Number.{sum, sumBetween, cut, raise}
-use Rattle.model.specs.Number.Laws.{sum-last, between-first, between-none, between-total}
-use Rattle.model.specs.Fraction.{Same, AtMost, certainty, complement}
-use Rattle.model.specs.Chances.{Chances, Complete, share, tailNumerator, tail, mean, tailsTotal, lossUnits, lossNumerator, expectedLoss}
+use native.Mathlib.Nat.{add-zero, zero-add, add-suc, sub-zero, sub-eq-zero-of-le, add-sub-of-le, le-refl, le-trans, min-le-right, mul-pos, mul-le-mul-left, mul-le-mul-right}
+use lib.IntN.{pos, _-ℤ_, _*ℤ_}
+use Rattle.model.specs.Number.{sum, sumBetween, raise}
+use Rattle.model.specs.Number.Laws.{sum-last, between-first, between-none, between-total, raised-cut, raised-minus, raised-times}
+use Rattle.model.specs.Fraction.{Same, AtMost, certainty, whole, complement}
+use Rattle.model.specs.Chances.{Chances, Complete, share, tailNumerator, tail, mean, tailsTotal, lossAbove, lossUnits, lossUnitsCutFirst, lossNumerator, expectedLoss}
 
 -- ---- tails and mean
 
@@ -63,24 +62,33 @@ module _ (r : Chances) where
 
 -- ---- loss units
 
-raised-cut : (most a b : ℕ) → raise (cut most (pos a -ℤ pos b)) ≡ min (a - b) most
-unfolding raise cut
-raised-cut most a zero = omega arith
-raised-cut most a (suc b) = elim (decLe (suc b) a) [ yes l ↦ rw (le-ltb a (suc b) l) | no l ↦ rw (lt-ltb a (suc b) (omega arith)) (omega arith) ]
-
--- The loss units in whole numbers alone.
-pub loss-units-whole : (n R A B X : ℕ) → lossUnits n R A B X ≡ min (X * complement R - A * n) ((B - A) * n)
-unfolding lossUnits
-loss-units-whole n R A B X = rw raised-cut (omega arith)
+raised-loss : (R X : ℕ) → raise (pos X *ℤ (pos whole -ℤ pos R)) ≡ X * complement R
+unfolding complement raise
+raised-loss R X = raised-times X (pos whole -ℤ pos R) ∙ ap (λ z. X * z) (raised-minus (pos whole) R)
 
 module _ (n R A B : ℕ) where
+  -- Moody's order and that of the scope paper give the same units, for every tranche and every recovery.
+  pub loss-units-cut-first : (X : ℕ) → lossUnitsCutFirst n R A B X ≡ lossUnits n R A B X
+  unfolding lossUnits lossUnitsCutFirst
+  loss-units-cut-first X = raised-cut ((B - A) * n) (lossAbove n R A X)
+
+  -- The loss units in whole numbers alone, where 10,000 − R counts as zero at a recovery above 10,000.
+  pub loss-units-whole : (X : ℕ) → lossUnits n R A B X ≡ min (X * complement R - A * n) ((B - A) * n)
+  unfolding lossUnits lossAbove
+  loss-units-whole X =
+      ap (λ z. min z ((B - A) * n)) (raised-minus (pos X *ℤ (pos whole -ℤ pos R)) (A * n) ∙ ap (λ z. z - A * n) (raised-loss R X))
+
+  -- At a recovery of 10,000 or more no defaults have units.
+  pub loss-units-none : whole ≤ R → (X : ℕ) → lossUnits n R A B X ≡ 0
+  unfolding complement
+  loss-units-none l X = rw (loss-units-whole X, sub-eq-zero-of-le l) (omega arith)
+
   pub loss-units-at-most : (X : ℕ) → lossUnits n R A B X ≤ (B - A) * n
-  loss-units-at-most X = rw loss-units-whole (min-le-right (X * complement R - A * n) ((B - A) * n))
+  loss-units-at-most X = rw (loss-units-whole X) (min-le-right (X * complement R - A * n) ((B - A) * n))
 
   -- More defaults, no fewer units.
   pub loss-units-grow : {X Y : ℕ} → X ≤ Y → lossUnits n R A B X ≤ lossUnits n R A B Y
-  loss-units-grow {X} {Y} l =
-      rw (loss-units-whole n R A B X, loss-units-whole n R A B Y) (omega (arith, mul-le-mul-right (complement R) l))
+  loss-units-grow {X} {Y} l = rw (loss-units-whole X, loss-units-whole Y) (omega (arith, mul-le-mul-right (complement R) l))
 
 -- ---- expected loss
 

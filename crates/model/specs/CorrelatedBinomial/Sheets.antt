@@ -5,10 +5,10 @@ use mathlib.Core.Path.{_≡_, refl, ap}
 use mathlib.Core.List.{List, [], _∷_}
 use native.Mathlib.Nat.{one-le-pow}
 use lib.Dec.{lit<}
-use Rattle.model.specs.Number.{sum, choose, binomialSum, integerSum, signed, alternatingSum, triangle, cut, raise}
+use Rattle.model.specs.Number.{sum, choose, binomialSum, integerSum, signed, alternatingSum, triangle, raise}
 use Rattle.model.specs.Fraction.{Fraction, Same, whole, complement, over}
 use Rattle.model.specs.Passes.{pass, passed}
-use Rattle.model.specs.Chances.{share, chance, lossUnits, lossNumerator, expectedLoss}
+use Rattle.model.specs.Chances.{share, chance, lossAbove, lossUnits, lossNumerator, expectedLoss}
 use Rattle.model.specs.Chances.Laws.{loss-of-last}
 use Rattle.model.specs.CorrelatedBinomial.{conditional, joint, scaledJoint, closedForm, probability, defaults, withoutSubtraction, passStep, rowEntry}
 
@@ -88,12 +88,12 @@ by-products (l ∷ ls) e = (record { cross = cc }, by-products ls (cc))
 
 -- The small lines are computed.
 small-holds : Every small
-unfolding small line products decimal over triangle whole complement conditional joint scaledJoint closedForm probability defaults withoutSubtraction binomialSum passStep pass passed rowEntry choose sum integerSum signed alternatingSum share chance cut raise lossUnits lossNumerator expectedLoss
+unfolding small line products decimal over triangle whole complement conditional joint scaledJoint closedForm probability defaults withoutSubtraction binomialSum passStep pass passed rowEntry choose sum integerSum signed alternatingSum share chance raise lossAbove lossUnits lossNumerator expectedLoss
 small-holds = by-products small refl
 
 -- Sheet 10: the terms with no loss units drop out, and the one that is left, m_64 times 64, is computed.
 large-numerator : large .exact .num ≡ choose 64 64 * probability 1 0 64 64 .num * 64
-unfolding large line defaults expectedLoss lossUnits cut raise complement whole
+unfolding large line defaults expectedLoss lossAbove lossUnits raise whole
 large-numerator = loss-of-last (defaults 64 1 0) 0 9999 10000 refl
 
 large-holds : Same (large .exact) (large .figure)

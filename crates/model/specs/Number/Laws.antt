@@ -1,14 +1,14 @@
--- Laws of finite sums, differences, binomial coefficients and triangle numbers.
+-- Laws of finite sums, differences, integers raised to zero, binomial coefficients and triangle numbers.
 -- Assumes nothing.
-use Prim.Native.Nat.{ℕ, zero, suc, _+_, _*_, _-_, _^_, _≤_, _<_, suc-le-suc}
+use Prim.Native.Nat.{ℕ, zero, suc, _+_, _*_, _-_, _^_, _≤_, _<_, min, suc-le-suc}
 use mathlib.Core.Path.{_≡_, refl, sym, ap, ap₂, _∙_}
 use native.Mathlib.Nat.{suc-sub-suc, sub-eq-zero-of-le, le-step, le-of-suc-le-suc, le-of-eq, le-of-lt, le-antisymm, lt-suc-self, add-zero, zero-add, add-suc, suc-add, add-sub-of-le, add-mul, mul-le-mul, pow-succ'}
 use native.Mathlib.Decide.{decLe}
 use native.Mathlib.Omega.{arith}
 use borrow.Author.Tests.{lt-ltb, le-ltb}
 use lib.Pow.{pow-pos}
-use lib.IntN.{ℤ, pos, negℤ, natAbs, _+ℤ_, _-ℤ_, +ℤ-assoc, +ℤ-comm, negℤ-+ℤ}
-use Rattle.model.specs.Number.{sum, sumBetween, integerSum, choose, factorial, triangle, binomialSum}
+use lib.IntN.{ℤ, pos, negsuc, negℤ, natAbs, _+ℤ_, _-ℤ_, _*ℤ_, +ℤ-assoc, +ℤ-comm, negℤ-+ℤ}
+use Rattle.model.specs.Number.{sum, sumBetween, integerSum, choose, factorial, triangle, binomialSum, cut, raise}
 
 -- ---- sums
 
@@ -100,6 +100,31 @@ differences-total (suc n) h f g e =
     ap₂ _+ℤ_ (differences-total n h f g (λ i l. e i (le-step l))) (e n (lt-suc-self n))
     ∙ integer-interchange (pos (sum n f)) (negℤ (pos (sum n g))) (pos (f n)) (negℤ (pos (g n)))
     ∙ ap (λ z. pos (sum n f + f n) +ℤ z) (sym (negℤ-+ℤ (pos (sum n g)) (pos (g n))))
+
+-- ---- integers raised to zero
+
+-- Raising may be exchanged with a cut, with a difference and with a product.
+pub raised-cut : (most : ℕ) (x : ℤ) → raise (cut most x) ≡ min (raise x) most
+unfolding raise cut
+raised-cut most (pos a) = refl
+raised-cut most (negsuc a) = omega arith
+
+pub raised-minus : (x : ℤ) (b : ℕ) → raise (x -ℤ pos b) ≡ raise x - b
+unfolding raise
+raised-minus (pos a) zero = omega arith
+raised-minus (pos a) (suc b) = elim (decLe (suc b) a) [ yes l ↦ rw (le-ltb a (suc b) l) | no l ↦ rw (lt-ltb a (suc b) (omega arith)) (omega arith) ]
+raised-minus (negsuc a) zero = rw (lt-ltb 0 (suc a) (omega arith)) refl
+raised-minus (negsuc a) (suc b) = omega arith
+
+raised-negative : (a : ℕ) → raise (negℤ (pos a)) ≡ 0
+unfolding raise
+raised-negative zero = refl
+raised-negative (suc a) = refl
+
+pub raised-times : (c : ℕ) (x : ℤ) → raise (pos c *ℤ x) ≡ c * raise x
+unfolding raise
+raised-times c (pos a) = refl
+raised-times c (negsuc a) = raised-negative (c * suc a) ∙ omega arith
 
 -- ---- binomial coefficients
 

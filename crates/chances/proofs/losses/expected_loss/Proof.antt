@@ -50,6 +50,6 @@ expected-loss-spec =
     (λ c. omega arith) (λ c. omega arith)
     loop-again
     (λ c. omega arith)
-    (λ c. record { fits = basis-points-word (omega arith) (omega arith) })
+    (λ c. basis-points-word (omega arith) (omega arith))
     (λ c κs. quotient-operands (c .before .loop .inv))
     returns)
