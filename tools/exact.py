@@ -1,19 +1,42 @@
-"""Bounds, printed tails, columns and shift lists held to the exact model, whose chances are worked out by the closed form."""
+"""Bounds, printed tails, columns and shift lists held to the exact model, whose chances are worked out by the closed form.
+
+A model is its correlation after i defaults, and its steps."""
+from collections import namedtuple
+from fractions import Fraction
 from functools import lru_cache
-from math import comb
+from math import comb, prod
 
 from kept import value
-from pools import UNITS, WHOLE, loss, loss_units, printed_rows, printed_tails, shifts, steps, tails
+from pools import UNITS, WHOLE, beta_quotients, beta_steps, loss, loss_units, printed_rows, printed_tails, shifts, steps
+from pools import tails
+
+Model = namedtuple("Model", "correlation steps")
+
+
+def constant(rho, i):
+    """rho, as a numerator and a denominator."""
+    return rho, WHOLE
+
+
+def decaying(rho, i):
+    """rho / (1 + i * rho)."""
+    return rho, WHOLE + i * rho
+
+
+MOODY = Model(constant, steps)
+BETA = Model(decaying, beta_steps)
 
 
 @lru_cache(maxsize=None)
-def joints(n, p, rho):
+def joints(n, p, rho, model=MOODY):
     """m_0 to m_n, as numerators over the first of them."""
-    power = n * (n + 1) // 2
-    joint, conditional = [WHOLE**power], p
-    for k in range(1, n + 1):
-        joint.append(joint[-1] * conditional // WHOLE**k)
-        conditional = conditional * (WHOLE - rho) + rho * WHOLE**k
+    conditionals = [(p, WHOLE)]
+    for i in range(n - 1):
+        (conditional, whole), (correlation, one) = conditionals[i], model.correlation(rho, i)
+        conditionals.append((conditional * (one - correlation) + correlation * whole, whole * one))
+    joint = [prod(whole for _, whole in conditionals)]
+    for conditional, whole in conditionals:
+        joint.append(joint[-1] * conditional // whole)
     return joint
 
 
@@ -23,18 +46,18 @@ def closed_form(joint, j, k):
 
 
 @lru_cache(maxsize=None)
-def exact_chances(n, p, rho):
+def exact_chances(n, p, rho, model=MOODY):
     """The chances of 0 to n defaults, as numerators over one denominator."""
-    joint = joints(n, p, rho)
+    joint = joints(n, p, rho, model)
     chances = [comb(n, j) * closed_form(joint, j, n) for j in range(n + 1)]
     assert sum(chances) == joint[0] and min(chances) >= 0
     return chances, joint[0]
 
 
 @lru_cache(maxsize=None)
-def exact_tails(n, p, rho):
+def exact_tails(n, p, rho, model=MOODY):
     """The tails at 0 to n, over the same denominator."""
-    chances, whole = exact_chances(n, p, rho)
+    chances, whole = exact_chances(n, p, rho, model)
     return [sum(chances[k:]) for k in range(n + 1)], whole
 
 
@@ -45,36 +68,41 @@ def hold_apart(parts, low, high, numerator, whole):
 
 
 @lru_cache(maxsize=None)
-def hold_bounds(parts, n, p, rho):
-    """That of every entry of the store, every chance and every tail."""
-    (low_rows, low), (high_rows, high) = (steps(side, n, p, rho) for side in (0, 1))
-    joint = joints(n, p, rho)
-    for k in range(n + 1):
-        for j in range(k + 1):
-            hold_apart(parts, low_rows[k][j], high_rows[k][j], closed_form(joint, j, k), joint[0])
+def hold_bounds(parts, n, p, rho, model=MOODY):
+    """That of every entry of the rows that are made, every chance and every tail."""
+    (low_rows, low), (high_rows, high) = (model.steps(side, n, p, rho) for side in (0, 1))
+    joint = joints(n, p, rho, model)
+    for low_row, high_row in zip(low_rows, high_rows):
+        for j, pair in enumerate(zip(low_row, high_row)):
+            hold_apart(parts, *pair, closed_form(joint, j, len(low_row) - 1), joint[0])
     for bounds, (exact, whole) in [
-        (zip(low, high), exact_chances(n, p, rho)),
-        (zip(tails(0, low), tails(1, high)), exact_tails(n, p, rho)),
+        (zip(low, high), exact_chances(n, p, rho, model)),
+        (zip(tails(0, low), tails(1, high)), exact_tails(n, p, rho, model)),
     ]:
         for pair, numerator in zip(bounds, exact):
             hold_apart(parts, *pair, numerator, whole)
 
 
-def hold_loss(parts, n, p, rho, recovery, lower, upper):
-    """That of the tranche loss of step 6."""
-    low, high = (loss(side, steps(side, n, p, rho)[1], recovery, lower, upper) for side in (0, 1))
-    chances, whole = exact_chances(n, p, rho)
+def exact_loss(n, p, rho, recovery, lower, upper, model=MOODY):
+    """The expected loss of a tranche, as a numerator and a denominator."""
+    chances, whole = exact_chances(n, p, rho, model)
     units = sum(chance * loss_units(n, x, recovery, lower, upper) for x, chance in enumerate(chances))
-    hold_apart(parts, low, high, units, whole * (upper - lower) * n)
+    return units, whole * (upper - lower) * n
+
+
+def hold_loss(parts, n, p, rho, recovery, lower, upper, model=MOODY):
+    """That of the tranche loss of step 6."""
+    low, high = (loss(side, model.steps(side, n, p, rho)[1], recovery, lower, upper) for side in (0, 1))
+    hold_apart(parts, low, high, *exact_loss(n, p, rho, recovery, lower, upper, model))
 
 
 @lru_cache(maxsize=None)
-def hold_column(n, p, rho):
+def hold_column(n, p, rho, model=MOODY):
     """What is promised of the printed tails and of the column: at most half a unit above the exact tail and less than 0.8 below it;
     rows that add to 100,000, none below zero, each less than 1.5 units off."""
-    low = steps(0, n, p, rho)[1]
+    low = model.steps(0, n, p, rho)[1]
     printed, rows = printed_tails(low), printed_rows(low)
-    exact, whole = exact_tails(n, p, rho)
+    exact, whole = exact_tails(n, p, rho, model)
     exact = exact + [0]
     assert printed[0] == UNITS and printed[n + 1] == 0 and sum(rows) == UNITS and min(rows) >= 0
     assert all(-8 * whole < 10 * (printed[k] * whole - UNITS * exact[k]) <= 5 * whole for k in range(n + 2))
@@ -90,3 +118,27 @@ def hold_shifts(n, p, rho):
     assert entries[0] == 0 and max(map(abs, entries)) <= UNITS
     assert all(10 * abs(entries[k] * whole - UNITS * (exact[k] - base[k])) < 13 * whole for k in range(n + 1))
     assert 10 * abs(sum(entries[1:])) < 13 * n
+
+
+@lru_cache(maxsize=None)
+def hold_quotients(n, p, rho):
+    """The quotients of the beta-binomial multiply to its closed form."""
+    joint = joints(n, p, rho, BETA)
+    for j in range(n + 1):
+        numerators, denominators = zip(*beta_quotients(n, j, p, rho))
+        assert prod(numerators) * joint[0] == closed_form(joint, j, n) * prod(denominators) and min(denominators) > 0
+
+
+def hold_implied(n, p, moody, beta, recovery, lower, upper):
+    """Two correlations that imply one loss, each in its model: Moody's loss is between those of the beta-binomial one basis point
+    below and above."""
+    between = Fraction(*exact_loss(n, p, moody, recovery, lower, upper))
+    others = [Fraction(*exact_loss(n, p, beta + step, recovery, lower, upper, BETA)) for step in (-1, 1)]
+    assert min(others) < between < max(others)
+
+
+@lru_cache(maxsize=None)
+def hold_same(n, p, rho):
+    """Both models have the same exact chances: of up to two assets, and at correlation 0."""
+    (chances, whole), (others, other) = exact_chances(n, p, rho), exact_chances(n, p, rho, BETA)
+    assert [x * other for x in chances] == [x * whole for x in others]

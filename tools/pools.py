@@ -1,6 +1,8 @@
-"""A pool by the six steps, in exact whole numbers: each product, sum and quotient is rounded once. A side is 0 (low) or 1 (high)."""
+"""A pool by the six steps, and by those of the beta-binomial, in exact whole numbers: each product, sum and quotient is rounded
+once. A side is 0 (low) or 1 (high)."""
 import struct
 from fractions import Fraction
+from functools import reduce
 from math import comb, floor
 
 from kept import ONE, ZERO, plus, product, quotient, rounded, value
@@ -10,6 +12,12 @@ LARGEST_POOL = 64
 SCREEN_POOL = 20
 UNITS = 100000
 LEAST_SHOWN = (2**31, -831)
+
+
+def row_chances(side, row):
+    """The chances of 0 to n defaults, from row n."""
+    n = len(row) - 1
+    return [product(side, rounded(side, comb(n, j)), row[j]) for j in range(n + 1)]
 
 
 def steps(side, n, p, rho):
@@ -31,7 +39,25 @@ def steps(side, n, p, rho):
             for j in range(k - s):
                 row[j] = plus(side, old[j], product(side, rho_, old[j + 1]))
         rows.append([product(side, row[j], weights[j]) for j in range(k)] + [joint])
-    return rows, [product(side, rounded(side, comb(n, j)), rows[n][j]) for j in range(n + 1)]
+    return rows, row_chances(side, rows[n])
+
+
+def beta_quotients(n, j, p, rho):
+    """The fractions whose product is entry j of row n of the beta-binomial, as numerators and denominators."""
+    q, a = WHOLE - rho, WHOLE - p
+    return [
+        (p * q + t * rho * WHOLE if t < j else a * q + (t - j) * rho * WHOLE, WHOLE * (q + t * rho))
+        for t in range(n)
+    ]
+
+
+def beta_steps(side, n, p, rho):
+    """Row n of the beta-binomial as the only row, and the chances of 0 to n defaults."""
+    row = [
+        reduce(lambda entry, factor: product(side, entry, rounded(side, *factor)), beta_quotients(n, j, p, rho), ONE)
+        for j in range(n + 1)
+    ]
+    return [row], row_chances(side, row)
 
 
 def tails(side, chances):
@@ -127,9 +153,13 @@ def row_refusal(n, k, length):
     return first(assets_ground(n) + store_ground(n, [length]) + [(9, k > n)])
 
 
+def entries_ground(number, n, entries):
+    return [(number, entries < n + 1)]
+
+
 def entries_refusal(number, n, p, rho, lengths, entries, screen=False):
     """Of a call that writes entries 0 to n to a slice beside the store."""
-    return first(pool_grounds(n, p, rho, screen) + store_ground(n, lengths) + [(number, entries < n + 1)])
+    return first(pool_grounds(n, p, rho, screen) + store_ground(n, lengths) + entries_ground(number, n, entries))
 
 
 def column_refusal(n, p, rho, lengths, units, screen=False):
@@ -140,6 +170,21 @@ def shift_refusal(n, p, rho, lengths, entries):
     return entries_refusal(10, n, p, rho, lengths, entries)
 
 
+def tranche_grounds(recovery, lower, upper):
+    return [(4, recovery > WHOLE), (5, upper > WHOLE), (6, not lower < upper)]
+
+
 def loss_refusal(n, p, rho, recovery, lower, upper, lengths, screen=False):
-    tranche = [(4, recovery > WHOLE), (5, upper > WHOLE), (6, not lower < upper)]
-    return first(pool_grounds(n, p, rho, screen) + tranche + store_ground(n, lengths))
+    return first(pool_grounds(n, p, rho, screen) + tranche_grounds(recovery, lower, upper) + store_ground(n, lengths))
+
+
+def beta_pool_grounds(n, p, rho):
+    return pool_grounds(n, p, rho) + [(12, rho == WHOLE)]
+
+
+def beta_column_refusal(n, p, rho, units):
+    return first(beta_pool_grounds(n, p, rho) + entries_ground(8, n, units))
+
+
+def beta_loss_refusal(n, p, rho, recovery, lower, upper):
+    return first(beta_pool_grounds(n, p, rho) + tranche_grounds(recovery, lower, upper))

@@ -1,13 +1,14 @@
-"""Works the six steps out in exact whole numbers and prints the figures of small pools. It stops at the first that
-crates/steps/specs/Cases.antt does not have.
+"""Works the six steps, and those of the beta-binomial, out in exact whole numbers and prints the figures of small pools. It
+stops at the first that neither Cases.antt nor BetaBinomial/Cases.antt in crates/steps/specs has.
 
     python3 tools/steps_figures.py
 """
 from pathlib import Path
 
-from pools import loss, printed_rows, printed_tails, shifts, steps, tails
+from pools import beta_steps, loss, printed_rows, printed_tails, shifts, steps, tails
 
-CASES = (Path(__file__).parent.parent / "crates/steps/specs/Cases.antt").read_text()
+SPECS = Path(__file__).parent.parent / "crates/steps/specs"
+CASES = (SPECS / "Cases.antt").read_text() + (SPECS / "BetaBinomial/Cases.antt").read_text()
 
 
 def line(text):
@@ -44,6 +45,14 @@ def main():
     for n, p, rho, k in [(2, 5000, 625, 2), (2, 50, 0, 2), (3, 500, 500, 3)]:
         line(f"(printedOf {n} {p} {rho} {k} ≡ {printed_tails(steps(0, n, p, rho)[1])[k]})")
     line(f"(rowOf 3 500 500 2 ≡ {printed_rows(steps(0, 3, 500, 500)[1])[2]})")
+    made = [beta_steps(side, 3, 1000, 3000) for side in (0, 1)]
+    for j in range(4):
+        digits(f"λ side. keptEntry side 3 1000 3000 {j}", lambda side: made[side][0][-1][j])
+    digits("λ side. keptBetaDefaults side 3 1000 3000 1", lambda side: made[side][1][1])
+    digits("betaTail 1", lambda side: tails(side, made[side][1])[1])
+    digits("betaLoss 1000 3000 (lit< tt)", lambda side: loss(side, made[side][1], 4000, 1000, 3000))
+    for k, row in enumerate(printed_rows(made[0][1])):
+        line(f"(betaRow {k} ≡ {row})")
 
 
 if __name__ == "__main__":

@@ -26,6 +26,10 @@ def quotient(x, divisor):
     results("quotient", x + (divisor,), value(x) / divisor)
 
 
+def ratio(n, m):
+    results("ratio", (n, m), Fraction(n, m))
+
+
 def shown(x):
     """The bits of the f64, which is there from 2^-800 to below 2^224."""
     if value(x) < Fraction(1, 2**800):
@@ -48,6 +52,7 @@ BASIS_POINTS = [0, 1, 2, 625, 1000, 3000, 3333, 5000, 6667, 7000, 9000, 9999, 10
 SIGNIFICANDS = [2**31, 2**31 + 1, 0xAAAAAAAB, 3 * 2**30, 2**32 - 2**16, 2**32 - 2, 2**32 - 1]
 EXPONENTS = [0, 1, 30, 31, 32, 33, 1000, -1, -30, -31, -32, -33, -1000]
 DIVISORS = [1, 2, 3, 7, 10000, 640000, 2**31, 2**32 - 1]
+RATIO_DIVISORS = [1, 3, 10000, 2**32 - 1, 2**32, 2**32 + 1, 0x2AAAAAAAB, 3 * 2**32, 2**34 - 1]
 SHOWN_EXPONENTS = [-832, -831, -830, -31, 0, 100, 192, 193]
 
 
@@ -95,5 +100,21 @@ def random_cases():
         first = following(second)
 
 
+def ratios():
+    """The edges, then numbers of full and of random length, and quotients of 32 digits at most that leave nothing."""
+    for m in RATIO_DIVISORS:
+        for n in INTEGERS:
+            ratio(n, m)
+    first = SEED
+    for _ in range(100):
+        second = following(first)
+        ratio(first, second % (2**34 - 1) + 1)
+        ratio(first >> second % 64, (second >> first % 64) % (2**34 - 1) + 1)
+        odd = first % 2**19 * 2 + 2**20 + 1
+        ratio(odd * (2**31 + (second >> 33)), odd * 2**13)
+        first = following(second)
+
+
 edges()
 random_cases()
+ratios()

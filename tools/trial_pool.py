@@ -1,12 +1,12 @@
 """The lines that crates/trial_pool prints of a call, by tools/pools.py. Every column and every shift list is held to the exact
-model, and on the screen every bound."""
+model, and on the screen and of the beta-binomial every bound."""
 from fractions import Fraction
 from functools import lru_cache
 
-from exact import hold_bounds, hold_column, hold_loss, hold_shifts
+from exact import BETA, MOODY, hold_bounds, hold_column, hold_loss, hold_quotients, hold_same, hold_shifts
 from kept import value
-from pools import UNITS, WHOLE, column_refusal, fill_refusal, loss, loss_answer, loss_refusal, printed_rows, row_refusal
-from pools import shift_refusal, shifts, steps, tails
+from pools import UNITS, WHOLE, beta_column_refusal, beta_loss_refusal, column_refusal, fill_refusal, loss, loss_answer
+from pools import loss_refusal, printed_rows, row_refusal, shift_refusal, shifts, tails
 from trial_support import SEED, checksum, following, line
 
 PLACES = 2150
@@ -16,12 +16,16 @@ INTEGER_MARK = 1000007
 AMPLE = [PLACES] * 4
 STORES = [(1, 3), (3, 10), (64, 2145)]
 OTHERS = [(10, 500, 250), (2, 500, 250), (64, 10000, 10000)]
+HALF_WAY = [
+    (2, 1250, 0), (2, 2500, 2500), (2, 5000, 625), (2, 5000, 9375), (2, 8750, 0), (3, 2500, 0), (3, 5000, 5000),
+    (5, 2500, 0), (5, 7500, 0), (6, 5000, 0), (10, 5000, 0),
+]
 
 
 @lru_cache(maxsize=None)
-def made(n, p, rho):
+def made(n, p, rho, model=MOODY):
     """What the steps make on both sides."""
-    return [steps(side, n, p, rho) for side in (0, 1)]
+    return [model.steps(side, n, p, rho) for side in (0, 1)]
 
 
 def array_word(numbers, mark, length):
@@ -74,6 +78,23 @@ def hold_screen(refusal, n, p, rho, *tranche):
             hold_loss(1000000, n, p, rho, *tranche)
 
 
+def hold_beta(n, p, rho, *tranche):
+    """What is promised of the bounds of the beta-binomial; and of up to two assets and at correlation 0, that those of Moody's
+    model enclose the same exact values."""
+    hold_quotients(n, p, rho)
+    same = n <= 2 or rho == 0
+    if same:
+        hold_same(n, p, rho)
+    for model in [BETA] + [MOODY] * same:
+        hold_bounds(100000, n, p, rho, model)
+        if tranche:
+            hold_loss(100000, n, p, rho, *tranche, model)
+
+
+def row_words(refusal, rows):
+    return ["refusal", refusal, *rows, "rows", array_word(rows, MARK, ROWS)]
+
+
 def column_words(n, p, rho, lengths, units, before=(), screen=False):
     refusal = column_refusal(n, p, rho, lengths, units, screen)
     if screen:
@@ -83,7 +104,7 @@ def column_words(n, p, rho, lengths, units, before=(), screen=False):
     rows = [] if refusal else printed_rows(filled[0][1])
     if not refusal:
         hold_column(n, p, rho)
-    return ["refusal", refusal, *rows, "rows", array_word(rows, MARK, ROWS), *store_words(filled, before)]
+    return row_words(refusal, rows) + store_words(filled, before)
 
 
 def shift_words(n, p, rho, lengths, entries, before=()):
@@ -99,12 +120,22 @@ def screen_words(*given):
     return column_words(*given, screen=True)
 
 
-LISTS = {"column": column_words, "shifts": shift_words, "screen column": screen_words}
+def beta_words(n, p, rho, lengths, units):
+    refusal = beta_column_refusal(n, p, rho, units)
+    if refusal:
+        return row_words(refusal, [])
+    hold_beta(n, p, rho)
+    hold_column(n, p, rho, BETA)
+    return row_words(refusal, printed_rows(made(n, p, rho, BETA)[0][1]))
+
+
+LISTS = {"column": column_words, "shifts": shift_words, "screen column": screen_words, "beta column": beta_words}
 
 
 def listed(call, n, p, rho, lengths=AMPLE, entries=ROWS):
-    """A call that leaves entries 0 to n in a slice."""
-    line(call, n, p, rho, "lengths", *lengths, entries, *LISTS[call](n, p, rho, lengths, entries))
+    """A call that leaves entries 0 to n in a slice. That of the beta-binomial is lent no store."""
+    given = ["length", entries] if call == "beta column" else ["lengths", *lengths, entries]
+    line(call, n, p, rho, *given, *LISTS[call](n, p, rho, lengths, entries))
 
 
 def listed_over(call, other, n, p, rho):
@@ -130,34 +161,58 @@ def list_lengths(call, n, exact):
     listed(call, n, 1000, 3000, longer(exact), n + 6)
 
 
-def lists(call):
-    """The cases of such a call."""
+def list_pools(call):
     for pool in [
         (3, 1000, 3000), (0, 1000, 3000), (64, 1000, 3000), (65, 1000, 3000), (3, 10001, 3000), (3, 1000, 10001),
         (65, 10001, 10001), (3, 10001, 10001),
     ]:
         listed(call, *pool)
-    for n in (1, 20):
-        for p, rho in [(0, 0), (0, 10000), (5000, 0), (5000, 10000), (10000, 0), (10000, 10000)]:
+
+
+def list_corners(call, n):
+    """Probability and correlation at and next to their ends."""
+    for p in (0, 1, 9999, 10000):
+        for rho in (0, 1, 9999, 10000):
             listed(call, n, p, rho)
-    for n, exact in STORES:
-        list_lengths(call, n, exact)
+
+
+def no_places(call):
     for pool in [(65, 1000, 3000), (3, 10001, 3000), (3, 1000, 10001)]:
         listed(call, *pool, [0] * 4, 0)
-    for other in OTHERS:
-        listed_over(call, other, 3, 1000, 3000)
-    listed_over(call, OTHERS[0], 65, 1000, 3000)
-    # Tails that are exactly half way between two units on the low side.
-    for pool in [
-        (2, 1250, 0), (2, 2500, 2500), (2, 5000, 625), (2, 5000, 9375), (2, 8750, 0), (3, 2500, 0), (3, 5000, 5000),
-        (5, 2500, 0), (5, 7500, 0), (6, 5000, 0), (10, 5000, 0),
-    ]:
-        assert any((UNITS * value(x)).denominator == 2 for x in tails(0, made(*pool)[0][1]))
+
+
+def half_way(n, p, rho, model=MOODY):
+    """A tail is exactly half way between two units on the low side."""
+    return any((UNITS * value(x)).denominator == 2 for x in tails(0, made(n, p, rho, model)[0][1]))
+
+
+def list_half_way(call):
+    for pool in HALF_WAY:
+        assert half_way(*pool)
         listed(call, *pool)
     # The low side is below that: the tail at 2 is p^2.
     for n, p, rho in [(2, 50, 0), (2, 1150, 0)]:
         assert UNITS * Fraction(p, WHOLE)**2 % 1 == Fraction(1, 2) > UNITS * value(made(n, p, rho)[0][1][2]) % 1
         listed(call, n, p, rho)
+
+
+def lists(call):
+    """The cases of a call that is lent a store."""
+    list_pools(call)
+    for n in (1, 20):
+        for p, rho in [(0, 0), (0, 10000), (5000, 0), (5000, 10000), (10000, 0), (10000, 10000)]:
+            listed(call, n, p, rho)
+    for n, exact in STORES:
+        list_lengths(call, n, exact)
+    no_places(call)
+    for other in OTHERS:
+        listed_over(call, other, 3, 1000, 3000)
+    listed_over(call, OTHERS[0], 65, 1000, 3000)
+    list_half_way(call)
+
+
+def shown_loss(filled, recovery, lower, upper):
+    return loss_answer(*(loss(side, filled[side][1], recovery, lower, upper) for side in (0, 1)))
 
 
 def answer_words(n, p, rho, recovery, lower, upper, lengths, before=(), screen=False):
@@ -168,13 +223,22 @@ def answer_words(n, p, rho, recovery, lower, upper, lengths, before=(), screen=F
     if refusal:
         return ["refusal", refusal, *store_words([], before)]
     filled = made(n, p, rho)
-    low, high = (loss(side, filled[side][1], recovery, lower, upper) for side in (0, 1))
-    return [*loss_answer(low, high), *store_words(filled, before)]
+    return [*shown_loss(filled, recovery, lower, upper), *store_words(filled, before)]
 
 
 def tranche_loss(n, p, rho, recovery, lower, upper, lengths=AMPLE, screen=False):
     words = answer_words(n, p, rho, recovery, lower, upper, lengths, (), screen)
     line(*["screen"] * screen, "loss", n, p, rho, recovery, "tranche", lower, upper, "lengths", *lengths, *words)
+
+
+def beta_loss(n, p, rho, recovery, lower, upper):
+    """The loss of the beta-binomial."""
+    refusal = beta_loss_refusal(n, p, rho, recovery, lower, upper)
+    words = ["refusal", refusal]
+    if not refusal:
+        hold_beta(n, p, rho, recovery, lower, upper)
+        words = shown_loss(made(n, p, rho, BETA), recovery, lower, upper)
+    line("beta loss", n, p, rho, recovery, "tranche", lower, upper, *words)
 
 
 def loss_over(other, n, p, rho, recovery, lower, upper, screen=False):

@@ -7,6 +7,7 @@ ghost use mathlib.Core.Path.{_≡_};
 ghost use Prim.Native.Nat.{ℕ};
 ghost use lib.ListN.{length};
 ghost use Rattle.grounds.specs.Grounds.{firstGround, rowGrounds};
+ghost use Rattle.pool.specs.Demands.{BetaColumnDemands, BetaTrancheDemands};
 ghost use Rattle.pool.specs.Demands.{lent, FillDemands, RowDemands, ColumnDemands, ShiftDemands, TrancheDemands, ScreenColumnDemands, ScreenTrancheDemands};
 
 pub fn fill(
@@ -161,4 +162,16 @@ pub fn screen_tranche_loss(
         low_exponents,
         high_exponents,
     )
+}
+
+pub fn beta_column(pool: Pool, units: &mut [u32]) -> u32
+    ensures { λ r. ⌜ BetaColumnDemands pool (now (units .entry)) (now (units .exit)) r ⌝ }
+{
+    beta_binomial::column(pool, units)
+}
+
+pub fn beta_tranche_loss(pool: Pool, tranche: Tranche) -> Answer
+    ensures { λ r. ⌜ BetaTrancheDemands pool tranche r ⌝ }
+{
+    beta_binomial::tranche_loss(pool, tranche)
 }

@@ -1,5 +1,5 @@
--- The grounds in figures: each for every input, those that each call checks, in order, for each ground inputs to which it alone applies, and what the screen
--- answers around its ceiling.
+-- The grounds in figures: each for every input, those that each call checks, in order, for each ground of the library inputs to which it alone applies, what
+-- the screen answers around its ceiling, and what the beta-binomial answers around full correlation.
 -- Assumes nothing.
 use Prim.Native.Nat.{ℕ, suc, _+_, _*_, _/_}
 use mathlib.Core.Path.{_≡_, refl}
@@ -9,8 +9,9 @@ use lib.Dec.{eqb, ltb}
 use Rattle.model.specs.Fraction.{whole}
 use Rattle.steps.specs.Inputs.{largestPool, screenPool}
 use Rattle.grounds.specs.Grounds.{Ground, firstOf, firstGround, storePlaces, someShorter, assetsGround, probabilityGround, correlationGround, recoveryGround, upperGround}
-use Rattle.grounds.specs.Grounds.{attachmentsGround, storeGround, entriesGround, rowGround, screenGround, poolGrounds, trancheGrounds}
+use Rattle.grounds.specs.Grounds.{attachmentsGround, storeGround, entriesGround, rowGround, screenGround, fullCorrelationGround, poolGrounds, trancheGrounds}
 use Rattle.grounds.specs.Grounds.{fillGrounds, rowGrounds, entriesGrounds, columnGrounds, shiftGrounds, lossGrounds, screened, screenColumnGrounds, screenLossGrounds}
+use Rattle.grounds.specs.Grounds.{betaPoolGrounds, betaColumnGrounds, betaLossGrounds}
 
 -- The first ground that applies: one that does gives its number, whatever follows; one that does not leaves it to the others; none gives 0.
 pub first : (m : ℕ) (gs : List Ground)
@@ -33,8 +34,9 @@ pub figures : (n p ρ R A B k units shifts : ℕ) (lengths : List ℕ)
     × (rowGround n k ≡ record { number = 9; applies = ltb n k })
     × (entriesGround 10 n shifts ≡ record { number = 10; applies = ltb shifts (n + 1) })
     × (screenGround screenPool n ≡ record { number = 11; applies = ltb 20 n })
-unfolding assetsGround probabilityGround correlationGround recoveryGround upperGround attachmentsGround storeGround entriesGround rowGround screenGround storePlaces largestPool screenPool whole
-figures n p ρ R A B k units shifts lengths = (refl, refl, refl, refl, refl, refl, refl, refl, refl, refl, refl)
+    × (fullCorrelationGround ρ ≡ record { number = 12; applies = eqb ρ 10000 })
+unfolding assetsGround probabilityGround correlationGround recoveryGround upperGround attachmentsGround storeGround entriesGround rowGround screenGround fullCorrelationGround storePlaces largestPool screenPool whole
+figures n p ρ R A B k units shifts lengths = (refl, refl, refl, refl, refl, refl, refl, refl, refl, refl, refl, refl)
 
 -- The grounds that each call checks, in order, with what it is given.
 pub orders : (most limit n p ρ R A B k length units shifts : ℕ) (lengths : List ℕ)
@@ -51,8 +53,12 @@ pub orders : (most limit n p ρ R A B k length units shifts : ℕ) (lengths : Li
     × (screenLossGrounds most limit n p ρ R A B lengths
     ≡ assetsGround most n ∷ screenGround limit n ∷ probabilityGround p ∷ correlationGround ρ ∷ recoveryGround R ∷ upperGround B ∷ attachmentsGround A B
     ∷ storeGround n lengths ∷ [])
-unfolding fillGrounds rowGrounds entriesGrounds columnGrounds shiftGrounds lossGrounds screened screenColumnGrounds screenLossGrounds poolGrounds trancheGrounds
-orders most limit n p ρ R A B k length units shifts lengths = (refl, refl, refl, refl, refl, refl, refl)
+    × (betaColumnGrounds most n p ρ units
+    ≡ assetsGround most n ∷ probabilityGround p ∷ correlationGround ρ ∷ fullCorrelationGround ρ ∷ entriesGround 8 n units ∷ [])
+    × (betaLossGrounds most n p ρ R A B
+    ≡ assetsGround most n ∷ probabilityGround p ∷ correlationGround ρ ∷ fullCorrelationGround ρ ∷ recoveryGround R ∷ upperGround B ∷ attachmentsGround A B ∷ [])
+unfolding fillGrounds rowGrounds entriesGrounds columnGrounds shiftGrounds lossGrounds screened screenColumnGrounds screenLossGrounds betaPoolGrounds betaColumnGrounds betaLossGrounds poolGrounds trancheGrounds
+orders most limit n p ρ R A B k length units shifts lengths = (refl, refl, refl, refl, refl, refl, refl, refl, refl)
 
 -- The numbers of the grounds that apply, of the ten of the library.
 abbrev applying : List Ground → List ℕ
@@ -98,3 +104,32 @@ pub screen-table : OnScreen 0 1 1 × OnScreen 1 0 2 × OnScreen 20 0 2 × OnScre
 unfolding firstOf firstGround assetsGround probabilityGround correlationGround recoveryGround upperGround attachmentsGround storeGround entriesGround screenGround storePlaces someShorter fillGrounds entriesGrounds columnGrounds lossGrounds screened screenColumnGrounds screenLossGrounds poolGrounds trancheGrounds largestPool screenPool whole
 screen-table =
     ((refl, refl, refl, refl), (refl, refl, refl, refl), (refl, refl, refl, refl), (refl, refl, refl, refl), (refl, refl, refl, refl), (refl, refl, refl, refl))
+
+abbrev betaColumn : (n p ρ units : ℕ) → ℕ
+betaColumn n p ρ units = firstGround (betaColumnGrounds largestPool n p ρ units)
+
+abbrev betaLoss : (n p ρ R A B : ℕ) → ℕ
+betaLoss n p ρ R A B = firstGround (betaLossGrounds largestPool n p ρ R A B)
+
+-- At the edges of 12 and of 8, and with all that follows wrong.
+pub beta-table :
+    (betaColumn 64 10000 9999 65 ≡ 0)
+    × (betaColumn 64 10000 9999 64 ≡ 8)
+    × (betaColumn 64 10000 10000 65 ≡ 12)
+    × (betaColumn 64 10000 10000 64 ≡ 12)
+    × (betaColumn 64 10000 10001 64 ≡ 3)
+    × (betaColumn 64 10001 10000 64 ≡ 2)
+    × (betaColumn 0 10001 10000 0 ≡ 1)
+    × (betaColumn 65 10001 10000 0 ≡ 1)
+    × (betaLoss 64 10000 9999 10000 9999 10000 ≡ 0)
+    × (betaLoss 64 10000 9999 10000 10000 10000 ≡ 6)
+    × (betaLoss 64 10000 9999 10000 10001 10001 ≡ 5)
+    × (betaLoss 64 10000 9999 10001 10001 10001 ≡ 4)
+    × (betaLoss 64 10000 10000 10000 9999 10000 ≡ 12)
+    × (betaLoss 64 10000 10000 10001 10001 10001 ≡ 12)
+    × (betaLoss 64 10000 10001 10001 10001 10001 ≡ 3)
+    × (betaLoss 64 10001 10000 10001 10001 10001 ≡ 2)
+    × (betaLoss 0 10001 10000 10001 10001 10001 ≡ 1)
+    × (betaLoss 65 10001 10000 10001 10001 10001 ≡ 1)
+unfolding firstOf firstGround assetsGround probabilityGround correlationGround recoveryGround upperGround attachmentsGround entriesGround fullCorrelationGround betaPoolGrounds betaColumnGrounds betaLossGrounds poolGrounds trancheGrounds largestPool whole
+beta-table = (refl, refl, refl, refl, refl, refl, refl, refl, refl, refl, refl, refl, refl, refl, refl, refl, refl, refl)

@@ -69,7 +69,7 @@ attachmentsGround A B = record { number = 6; applies = not (ltb A B) }
 unfoldable pub storeGround : (n : ℕ) (lengths : List ℕ) → Ground
 storeGround n lengths = record { number = 7; applies = someShorter (storePlaces n) lengths }
 
--- A slice beside the store has no room for its entries 0 to n. 8 is that of a column, 10 that of a shift list.
+-- A slice has no room for its entries 0 to n. 8 is that of a column, 10 that of a shift list.
 unfoldable pub entriesGround : (number n places : ℕ) → Ground
 entriesGround number n places = record { number = number; applies = ltb places (n + 1) }
 
@@ -80,6 +80,10 @@ rowGround n k = record { number = 9; applies = ltb n k }
 -- More assets than the quote screen takes.
 unfoldable pub screenGround : (limit n : ℕ) → Ground
 screenGround limit n = record { number = 11; applies = ltb limit n }
+
+-- Full correlation: the first denominator of the beta-binomial is 0.
+unfoldable pub fullCorrelationGround : (ρ : ℕ) → Ground
+fullCorrelationGround ρ = record { number = 12; applies = eqb ρ whole }
 
 -- ---- the grounds of each call, in order; `most` is its ceiling on the assets
 
@@ -128,6 +132,18 @@ screenColumnGrounds most limit n p ρ lengths units = screened limit n (columnGr
 unfoldable pub screenLossGrounds : (most limit n p ρ R A B : ℕ) (lengths : List ℕ) → List Ground
 screenLossGrounds most limit n p ρ R A B lengths = screened limit n (lossGrounds most n p ρ R A B lengths)
 
+-- 1 to 3 and 12, on the pool of the beta-binomial, whose calls are lent no store.
+unfoldable pub betaPoolGrounds : (most n p ρ : ℕ) → List Ground
+betaPoolGrounds most n p ρ = poolGrounds most n p ρ ++ (fullCorrelationGround ρ ∷ [])
+
+-- 1 to 3, 12 and 8.
+unfoldable pub betaColumnGrounds : (most n p ρ units : ℕ) → List Ground
+betaColumnGrounds most n p ρ units = betaPoolGrounds most n p ρ ++ (entriesGround 8 n units ∷ [])
+
+-- 1 to 3, 12, and 4 to 6.
+unfoldable pub betaLossGrounds : (most n p ρ R A B : ℕ) → List Ground
+betaLossGrounds most n p ρ R A B = betaPoolGrounds most n p ρ ++ trancheGrounds R A B
+
 -- The number that the screen's list gives, beside that of the library's list for the same inputs: 11 exactly where the pool has more than `limit` assets and
 -- ground 1 does not apply, and the library's otherwise.
 pub record Screens (most limit n library number : ℕ) : Type 0 where
@@ -161,4 +177,16 @@ pub record EntriesAccepted (most n p ρ : ℕ) (lengths : List ℕ) (places : �
 
 pub record LossAccepted (most n p ρ R A B : ℕ) (lengths : List ℕ) : Type 0 where
   pub fill : FillAccepted most n p ρ lengths
+  pub tranche : TrancheInRange R A B
+
+pub record BetaPoolAccepted (most n p ρ : ℕ) : Type 0 where
+  pub pool : PoolAccepted most n p ρ
+  pub below : ρ < whole
+
+pub record BetaColumnAccepted (most n p ρ places : ℕ) : Type 0 where
+  pub pool : BetaPoolAccepted most n p ρ
+  pub entries : n < places
+
+pub record BetaLossAccepted (most n p ρ R A B : ℕ) : Type 0 where
+  pub pool : BetaPoolAccepted most n p ρ
   pub tranche : TrancheInRange R A B

@@ -5,8 +5,9 @@ ghost use mathlib.Core.Path.{_≡_};
 ghost use mathlib.Core.Bool.{cond};
 ghost use mathlib.Core.List.{[], _∷_};
 ghost use Rattle.model.specs.Number.{triangle};
-ghost use Rattle.grounds.specs.Grounds.{firstOf, firstGround, storePlaces, fourLengths, assetsGround, storeGround, screenGround};
+ghost use Rattle.grounds.specs.Grounds.{firstOf, firstGround, storePlaces, fourLengths, assetsGround, storeGround, entriesGround, screenGround};
 ghost use Rattle.grounds.specs.Grounds.{poolGrounds, trancheGrounds, fillGrounds, rowGrounds, entriesGrounds, columnGrounds, shiftGrounds, lossGrounds};
+ghost use Rattle.grounds.specs.Grounds.{betaPoolGrounds, betaColumnGrounds, betaLossGrounds};
 
 // The lengths of the four slices of a store.
 pub struct Lengths {
@@ -102,7 +103,14 @@ pub fn row_refusal(most: u32, n: u32, k: u32, length: usize) -> u32
     )
 }
 
-// 1 to 3 and 7, then that of a slice beside the store, which has so many places for entries 0 to n.
+// That of a slice which has so many places for entries 0 to n.
+fn slice_refusal(number: u32, n: u32, places: usize) -> u32
+    ensures { λ r. ⌜ r ≡ firstGround (entriesGround number n places ∷ []) ⌝ }
+{
+    ground(number, places < n as usize + 1)
+}
+
+// 1 to 3 and 7, then that of a slice beside the store.
 fn entries_refusal(
     number: u32,
     most: u32,
@@ -115,7 +123,7 @@ fn entries_refusal(
     ensures { λ r. ⌜ r ≡ firstGround (entriesGrounds number most n p rho (fourLengths lengths) places) ⌝ }
 {
     let of_fill = fill_refusal(most, n, p, rho, lengths);
-    let of_entries = ground(number, places < n as usize + 1);
+    let of_entries = slice_refusal(number, n, places);
     first(of_fill, of_entries)
 }
 
@@ -150,4 +158,37 @@ pub fn loss_refusal(
             store_refusal(n, lengths),
         ),
     )
+}
+
+// 1 to 3 and 12.
+fn beta_pool_refusal(most: u32, n: u32, p: u32, rho: u32) -> u32
+    ensures { λ r. ⌜ r ≡ firstGround (betaPoolGrounds most n p rho) ⌝ }
+{
+    let of_pool = pool_refusal(most, n, p, rho);
+    let of_full_correlation = ground(12, rho == WHOLE);
+    first(of_pool, of_full_correlation)
+}
+
+pub fn beta_column_refusal(most: u32, n: u32, p: u32, rho: u32, units: usize) -> u32
+    ensures { λ r. ⌜ r ≡ firstGround (betaColumnGrounds most n p rho units) ⌝ }
+{
+    let of_beta_pool = beta_pool_refusal(most, n, p, rho);
+    let of_units = slice_refusal(8, n, units);
+    first(of_beta_pool, of_units)
+}
+
+pub fn beta_loss_refusal(
+    most: u32,
+    n: u32,
+    p: u32,
+    rho: u32,
+    recovery: u32,
+    lower: u32,
+    upper: u32,
+) -> u32
+    ensures { λ r. ⌜ r ≡ firstGround (betaLossGrounds most n p rho recovery lower upper) ⌝ }
+{
+    let of_beta_pool = beta_pool_refusal(most, n, p, rho);
+    let of_tranche = tranche_refusal(recovery, lower, upper);
+    first(of_beta_pool, of_tranche)
 }

@@ -10,6 +10,7 @@ pub mod Sums
 use Prim.Native.Nat.{ℕ, zero, suc, _+_, _-_, _*_, _/_, _%_, _^_, _≤_, _<_}
 use mathlib.Core.Path.{_≡_}
 use mathlib.Core.Logic.{_⊎_}
+use native.Mathlib.Nat.{zero-lt-suc}
 use mathlib.Core.Bool.{cond}
 use lib.Dec.{eqb}
 use lib.IntN.{ℤ, pos, negsuc, natAbs, _+ℤ_}
@@ -101,3 +102,8 @@ ofInteger side n = round side (integer n)
 
 unfoldable pub ofBasisPoints : Side → ℕ → Kept
 ofBasisPoints side p = round side (over p 1)
+
+-- n / m. There is no quotient by zero, and nothing divides by it: zero stands in its place.
+unfoldable pub ofRatio : Side → (n m : ℕ) → Kept
+ofRatio side n zero = nought
+ofRatio side n (suc m) = round side (divided (integer n) (suc m) (zero-lt-suc m))

@@ -2,14 +2,15 @@
 // serves both.
 use model::WHOLE;
 ghost use mathlib.Core.Path.{_≡_};
-ghost use Prim.Native.Nat.{_<_};
-ghost use Rattle.kept.specs.Rounding.{Operand, nought, unity, roundedProduct, roundedSum, roundedQuotient, ofInteger, ofBasisPoints};
+ghost use Prim.Native.Nat.{_<_, _^_};
+ghost use Rattle.kept.specs.Rounding.{Operand, nought, unity, roundedProduct, roundedSum, roundedQuotient, ofInteger, ofBasisPoints, ofRatio};
 
 mod binary64;
 mod rounding;
 mod whole;
 
 use rounding::add;
+use rounding::long_ratio;
 use rounding::ratio;
 use rounding::round_once;
 
@@ -58,6 +59,18 @@ impl Kept {
         ensures { λ r. ⌜ r ≡ ofBasisPoints side p ⌝ }
     {
         ratio(p as u64, WHOLE, 0, side)
+    }
+
+    // n / m, any n, and m below 2^34.
+    pub fn from_ratio(n: u64, m: u64, side: Side) -> Kept
+        requires { ⌜ 0 < m ⌝ ∗ ⌜ m < 2 ^ 34 ⌝ }
+        ensures { λ r. ⌜ r ≡ ofRatio side n m ⌝ }
+    {
+        if m < 0x1_0000_0000 {
+            ratio(n, m as u32, 0, side)
+        } else {
+            long_ratio(n, m, side)
+        }
     }
 
     // self × other

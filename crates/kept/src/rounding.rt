@@ -3,7 +3,7 @@ ghost use mathlib.Core.Path.{_≡_};
 ghost use Prim.Native.Nat.{_*_, _/_, _≤_, _<_, _^_};
 ghost use lib.IntN.{pos, _+ℤ_, _-ℤ_};
 ghost use lib.Signed.{_≤ℤ_};
-ghost use Rattle.model.specs.Fraction.{Fraction, plus, divided};
+ghost use Rattle.model.specs.Fraction.{Fraction, plus, divided, integer};
 ghost use Rattle.kept.specs.Rounding.{Normal, Reach, Operand, scaled, value, increment, round};
 ghost use Rattle.kept.specs.Rounding.Leading.{Between, Carried};
 ghost use Rattle.kept.specs.Rounding.Words.{shiftOf, RoundedDigits};
@@ -11,17 +11,17 @@ ghost use Rattle.kept.specs.Rounding.Sums.{Gap};
 use super::Kept;
 use super::Side;
 
-// One on the high side where something was dropped: the number that is added there carries anything but zero to 2^33. It is a sum
+// One on the high side where something was dropped: the number that is added there carries anything but zero to 2^35. It is a sum
 // and no branch, since nothing foretells whether the last digits are all zero.
 pub fn one_more(side: Side, dropped: u64) -> u64
-    requires { ⌜ dropped < 2 ^ 33 ⌝ }
+    requires { ⌜ dropped < 2 ^ 35 ⌝ }
     ensures { λ r. ⌜ r ≡ increment side dropped ⌝ }
 {
     let added: u64 = match side {
         Side::Low => 0,
-        Side::High => 0x1_ffff_ffff,
+        Side::High => 0x7_ffff_ffff,
     };
-    (dropped + added) >> 33
+    (dropped + added) >> 35
 }
 
 // The exponent of a number that was shifted up.
@@ -76,12 +76,12 @@ pub fn shifted_up(v: u64) -> u64
 
 // Rounds once the number that is v × 2^exponent where rest is zero, and lies between that and (v + 1) × 2^exponent where rest is
 // not. In the second case v has to have all 32 digits that stay. Of zero the exponent is left open.
-pub fn round_digits(v: u64, rest: u32, exponent: i32, side: Side) -> Kept
-    requires { ⌜ Reach 2000000100 exponent ⌝ ∗ ⌜ (0 < rest → 2 ^ 31 ≤ v) ⌝ }
+pub fn round_digits(v: u64, rest: u64, exponent: i32, side: Side) -> Kept
+    requires { ⌜ Reach 2000000100 exponent ⌝ ∗ ⌜ rest < 2 ^ 34 ⌝ ∗ ⌜ (0 < rest → 2 ^ 31 ≤ v) ⌝ }
     ensures { λ r. ⌜ RoundedDigits side v rest exponent r ⌝ }
 {
     let w = shifted_up(v);
-    let dropped = w % 0x1_0000_0000 + rest as u64;
+    let dropped = w % 0x1_0000_0000 + rest;
     carried(
         (w >> 32) + one_more(side, dropped),
         lowered(exponent + 32, headroom(v)),
@@ -89,8 +89,8 @@ pub fn round_digits(v: u64, rest: u32, exponent: i32, side: Side) -> Kept
 }
 
 // The same, with the exponent 0 for zero.
-pub fn round_once(v: u64, rest: u32, exponent: i32, side: Side) -> Kept
-    requires { ⌜ Reach 2000000100 exponent ⌝ ∗ ⌜ (0 < rest → 2 ^ 31 ≤ v) ⌝ }
+pub fn round_once(v: u64, rest: u64, exponent: i32, side: Side) -> Kept
+    requires { ⌜ Reach 2000000100 exponent ⌝ ∗ ⌜ rest < 2 ^ 34 ⌝ ∗ ⌜ (0 < rest → 2 ^ 31 ≤ v) ⌝ }
     ensures { λ r. ⌜ ((z : Fraction) → Between v rest exponent z → r ≡ round side z) ⌝ }
 {
     let x = round_digits(v, rest, exponent, side);
@@ -107,7 +107,19 @@ pub fn ratio(n: u64, m: u32, exponent: i32, side: Side) -> Kept
 {
     let w = shifted_up(n);
     let d = m as u64;
-    round_once(w / d, (w % d) as u32, lowered(exponent, headroom(n)), side)
+    round_once(w / d, w % d, lowered(exponent, headroom(n)), side)
+}
+
+// n / m rounded once by long division, for a divisor of up to 34 digits: the quotient has 30 digits or more, and the remainder
+// gives two more.
+pub fn long_ratio(n: u64, m: u64, side: Side) -> Kept
+    requires { ⌜ 4 ≤ m ⌝ ∗ ⌜ m < 2 ^ 34 ⌝ }
+    ensures { λ r. ⌜ ((above : 0 < m) → r ≡ round side (divided (integer n) m above)) ⌝ }
+{
+    let w = shifted_up(n);
+    let left = (w % m) << 2;
+    let v = ((w / m) << 2) + left / m;
+    round_once(v, left % m, lowered(-2, headroom(n)), side)
 }
 
 // The sum of two numbers, the first above zero and with the larger exponent. A second one that lies 32 digits or more below the

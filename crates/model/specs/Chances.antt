@@ -1,12 +1,12 @@
 -- A row of chances in general: the chances of 0 to n defaults, as numerators over one denominator. Tails, mean and tranche losses are defined for
 -- any such row, whatever model it comes from.
 -- Assumes nothing.
-use Prim.Native.Nat.{ℕ, suc, _*_, _-_, _<_, min}
+use Prim.Native.Nat.{ℕ, suc, _*_, _-_, _≤_, _<_, min}
 use mathlib.Core.Path.{_≡_}
 use native.Mathlib.Nat.{mul-pos}
 use lib.IntN.{ℤ, pos, _-ℤ_, _*ℤ_}
-use Rattle.model.specs.Number.{sum, sumBetween, cut, raise}
-use Rattle.model.specs.Fraction.{Fraction, whole}
+use Rattle.model.specs.Number.{sum, sumBetween, choose, cut, raise}
+use Rattle.model.specs.Fraction.{Fraction, Same, whole}
 pub mod Laws
 
 pub record Chances : Type 0 where
@@ -16,6 +16,10 @@ pub record Chances : Type 0 where
   pub numerator : ℕ → ℕ
   pub denominator : ℕ
   pub positive : 0 < denominator
+
+-- The chances of 0 to n defaults in any order: C(n,j) times x j over d, the chance that j named assets default and the others survive.
+abbrev pub inAnyOrder : (n : ℕ) (x : ℕ → ℕ) (d : ℕ) → 0 < d → Chances
+inAnyOrder n x d above = record { assets = n; numerator = λ j. choose n j * x j; denominator = d; positive = above }
 
 -- The chances add to one.
 abbrev pub Complete : Chances → Type 0
@@ -28,6 +32,11 @@ share r x = record { num = x; den = r .denominator; positive = r .positive }
 -- The chance of j defaults.
 unfoldable pub chance : Chances → ℕ → Fraction
 chance r j = share r (r .numerator j)
+
+-- Two rows for as many assets, with the same chances written over other denominators.
+pub record SameChances (r s : Chances) : Type 0 where
+  pub assets : r .assets ≡ s .assets
+  pub chances : (j : ℕ) → j ≤ r .assets → Same (chance r j) (chance s j)
 
 -- The tail at k: the chance of k or more defaults, over the row's denominator.
 unfoldable pub tailNumerator : Chances → ℕ → ℕ

@@ -5,10 +5,10 @@ use Prim.Native.Nat.{ℕ, zero, suc, _+_, _*_, _-_, _^_}
 use mathlib.Core.Bool.{cond}
 use lib.Dec.{ltb}
 use lib.IntN.{ℤ}
-use Rattle.model.specs.Number.{choose, binomialSum, alternatingSum, triangle, raise}
+use Rattle.model.specs.Number.{binomialSum, alternatingSum, triangle, raise}
 use Rattle.model.specs.Fraction.{Fraction, whole, complement, over, whole-power-positive}
 use Rattle.model.specs.Passes.{passed}
-use Rattle.model.specs.Chances.{Chances}
+use Rattle.model.specs.Chances.{Chances, inAnyOrder}
 pub mod Sheets
 pub mod Rows
 pub mod Theorems
@@ -39,12 +39,7 @@ probability p ρ j k = over (raise (closedForm p ρ j k)) (triangle k)
 
 -- The chances of 0 to n defaults in any order: C(n,j) × P(j,n).
 unfoldable pub defaults : (n p ρ : ℕ) → Chances
-defaults n p ρ = record {
-  assets = n;
-  numerator = λ j. choose n j * probability p ρ j n .num;
-  denominator = whole ^ triangle n;
-  positive = whole-power-positive (triangle n);
-}
+defaults n p ρ = inAnyOrder n (λ j. probability p ρ j n .num) (whole ^ triangle n) (whole-power-positive (triangle n))
 
 -- The form of P(j,k+1) without subtraction, over D^T(k+1), for j up to k, with a = 1 − p and q = 1 − ρ:
 -- a × q^j times the sum over i from 0 to k − j of C(k−j,i) × ρ^i × P(j+i,k). The power of D brings ρ^i over D^(k−j).

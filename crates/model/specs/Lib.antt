@@ -3,4 +3,6 @@ pub mod Fraction
 pub mod Passes
 pub mod Chances
 pub mod CorrelatedBinomial
+pub mod ClosedForm
+pub mod BetaBinomial
 pub mod Splitting

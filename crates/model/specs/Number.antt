@@ -1,4 +1,4 @@
--- Finite sums, binomial coefficients, binomial and alternating sums, triangle numbers, limits put to an integer.
+-- Finite sums and products, binomial coefficients, binomial and alternating sums, triangle numbers, limits put to an integer.
 -- Assumes nothing.
 use Prim.Native.Nat.{ℕ, zero, suc, _+_, _*_, _-_, min}
 use lib.IntN.{ℤ, pos, negsuc, negℤ, _+ℤ_}
@@ -12,6 +12,15 @@ sum (suc n) f = sum n f + f n
 -- f k + f (k + 1) + … + f n
 unfoldable pub sumBetween : (k n : ℕ) → (ℕ → ℕ) → ℕ
 sumBetween k n f = sum (suc n - k) (λ i. f (k + i))
+
+-- The product of the first n factors: f 0 × f 1 × … × f (n − 1), multiplied in this order.
+unfoldable pub product : ℕ → (ℕ → ℕ) → ℕ
+product zero f = 1
+product (suc n) f = product n f * f n
+
+-- f k × f (k + 1) × … × f (n − 1)
+unfoldable pub productBetween : (k n : ℕ) → (ℕ → ℕ) → ℕ
+productBetween k n f = product (n - k) (λ i. f (k + i))
 
 -- C(n,i), n over i: the ways to choose i of n things, by Pascal's rule. `choose-factorial` shows that it is n!/(i!(n−i)!).
 unfoldable pub choose : ℕ → ℕ → ℕ

@@ -1,7 +1,8 @@
 -- The buyer's demands, with their numbers, on what each call is given and what it leaves. Demands/Theorems.antt shows that the contract of each call implies
 -- its part; that of a call of a crate above this one, which has its demands here, is shown there.
 -- 1. Every input is answered or refused by one number, and a refused call leaves its slices as they were.
--- 2. Two bounds that the rounding steps make lie round every exact value of the model.
+-- 2. Two bounds that the rounding steps make lie round every exact value of the call's model: the correlated binomial, and in the calls that have its name the
+-- beta-binomial.
 -- 3. The two are at most one part in 100,000 apart, on the quote screen one part in 1,000,000; the rows of a column are differences of tails rounded to nearest, add
 -- to exactly 100,000 units, and each is less than 1.5 units off; the entries of a shift list past the first add to less than 1.3 units for each asset, and each is
 -- less than 1.3 units off.
@@ -19,8 +20,10 @@ use lib.Ieee.{Float}
 use lib.Ieee.Exact.{HasValue}
 use Rattle.model.specs.Number.{sum, integerSum}
 use Rattle.model.specs.Fraction.{Fraction, Same, AtMost, Less, integer, plus, times}
-use Rattle.model.specs.Chances.{chance, tail, expectedLoss}
+use Rattle.model.specs.Chances.{Chances, chance, tail, expectedLoss}
 use Rattle.model.specs.CorrelatedBinomial.{probability, defaults}
+use Rattle.model.specs.ClosedForm.{defaultsBy}
+use Rattle.model.specs.BetaBinomial.{betaProbability, betaDefaults}
 use Rattle.kept.specs.declared.Kept.{Kept}
 use Rattle.kept.specs.declared.Side.{Side}
 use Rattle.kept.specs.declared.Side.the-variants.{Low, High}
@@ -30,8 +33,9 @@ use Rattle.steps.specs.Chances.{keptTail, keptLoss}
 use Rattle.steps.specs.Column.{printedTail}
 use Rattle.steps.specs.CorrelatedBinomial.{keptDefaults}
 use Rattle.steps.specs.CorrelatedBinomial.Exponents.{PoolNumber}
+use Rattle.steps.specs.BetaBinomial.{keptEntry, keptBetaDefaults, BetaNumber}
 use Rattle.steps.specs.Inputs.{distanceFor}
-use Rattle.grounds.specs.Grounds.{Ground, firstGround, fillGrounds, rowGrounds, columnGrounds, shiftGrounds, lossGrounds, screenColumnGrounds, screenLossGrounds, Screens}
+use Rattle.grounds.specs.Grounds.{Ground, firstGround, fillGrounds, rowGrounds, columnGrounds, shiftGrounds, lossGrounds, screenColumnGrounds, screenLossGrounds, Screens, betaColumnGrounds, betaLossGrounds}
 use Rattle.store.specs.declared.Pool.{Pool}
 use Rattle.store.specs.Stores.{Store, store}
 use Rattle.pool.specs.declared.Tranche.{Tranche}
@@ -177,15 +181,26 @@ pub record AnswerDemands (parts : ℕ) (low high : Kept) (exact : Fraction) (ans
   pub answer-is : answer ≡ Answered loss
   pub says : LossDemands low high loss
 
--- The exact expected loss of a tranche.
+-- The exact expected loss of a tranche by the correlated binomial model, and by the beta-binomial.
 unfoldable pub exactLoss : (n p ρ R A B : ℕ) → 0 < (B - A) * n → Fraction
 unfolding defaults
 exactLoss n p ρ R A B wide = expectedLoss (defaults n p ρ) R A B wide
+
+unfoldable pub betaExactLoss : (n p ρ R A B : ℕ) → 0 < (B - A) * n → Fraction
+unfolding betaDefaults defaultsBy
+betaExactLoss n p ρ R A B wide = expectedLoss (betaDefaults n p ρ) R A B wide
 
 -- The number of the refusal that is answered, 0 for a loss.
 abbrev pub refusalIn : Answer → ℕ
 refusalIn (Refused number) = number
 refusalIn (Answered loss) = 0
+
+-- What steps 4 to 6 make for n assets, of a row of chances in general: bounds of the chances and of the tails; and no number that is made, those of the entries
+-- before and of the losses after included, has an exponent below −80,000 or above 100.
+pub record StepsDemands (parts n : ℕ) (r : Chances) (c : Side → ℕ → Kept) (Made : Side → Kept → Type 0) : Type 0 where
+  pub chances : (j : ℕ) → j ≤ n → BoundDemands parts (c Low j) (c High j) (chance r j)
+  pub tails : (k : ℕ) → BoundDemands parts (keptTail Low n (c Low) k) (keptTail High n (c High) k) (tail r k)
+  pub exponents : (side : Side) {x : Kept} → Made side x → (negsuc 79999 ≤ℤ x .exponent) × (x .exponent ≤ℤ pos 100)
 
 -- ---- the calls
 
@@ -200,16 +215,12 @@ module _ (pool : Pool) where
   ρ = pool .correlation
 
   -- The table that every accepted call works out. In the store, at place k(k+1)/2 + j, stand on either side the numbers that steps 1 to 3 make for entry j of
-  -- row k, bounds of P(j,k). Steps 4 and 5 make bounds of the chances and of the tails. No number that the steps make has an exponent below −80,000 or above
-  -- 100.
+  -- row k, bounds of P(j,k). The later steps go on from row n.
   pub record TableDemands (parts : ℕ) (s : Slices) : Type 0 where
     pub made : (side : Side) (j k : ℕ) → j ≤ k → k ≤ n → numberOn side s (k * (k + 1) / 2 + j) ≡ keptRow side p ρ k j
     pub entries : (j k : ℕ) → j ≤ k → k ≤ n
         → BoundDemands parts (numberOn Low s (k * (k + 1) / 2 + j)) (numberOn High s (k * (k + 1) / 2 + j)) (probability p ρ j k)
-    pub chances : (j : ℕ) → j ≤ n → BoundDemands parts (keptDefaults Low n p ρ j) (keptDefaults High n p ρ j) (chance (defaults n p ρ) j)
-    pub tails : (k : ℕ)
-        → BoundDemands parts (keptTail Low n (keptDefaults Low n p ρ) k) (keptTail High n (keptDefaults High n p ρ) k) (tail (defaults n p ρ) k)
-    pub exponents : (side : Side) {x : Kept} → PoolNumber side n p ρ x → (negsuc 79999 ≤ℤ x .exponent) × (x .exponent ≤ℤ pos 100)
+    pub steps : StepsDemands parts n (defaults n p ρ) (λ side. keptDefaults side n p ρ) (λ side. PoolNumber side n p ρ)
 
   -- The places of rows 0 to n.
   abbrev places : ℕ
@@ -251,6 +262,20 @@ module _ (pool : Pool) where
     pub same : (refusal ≡ 11 → ⊥) → (after₂ : Slices) (units₂ : List ℕ) (refusal₂ : ℕ)
         → Prints columnRefusal distanceFor pool (storeOf before) (storeOf after₂) units units₂ refusal₂ → (refusal ≡ refusal₂) × (after ≡ after₂) × (units′ ≡ units₂)
 
+  -- What every accepted call of the beta-binomial model works out. Entry j is on either side what the quotients give, a bound of P(j,n), whose exact value is the closed
+  -- form with the correlation ρ / (1 + iρ) after i defaults.
+  pub record BetaRowDemands (parts : ℕ) : Type 0 where
+    pub entries : (j : ℕ) → j ≤ n → BoundDemands parts (keptEntry Low n p ρ j) (keptEntry High n p ρ j) (betaProbability p ρ j n)
+    pub steps : StepsDemands parts n (betaDefaults n p ρ) (λ side. keptBetaDefaults side n p ρ) (λ side. BetaNumber side n p ρ)
+
+  -- Its column call, which is lent no store.
+  pub record BetaColumnDemands (units units′ : List ℕ) (refusal : ℕ) : Type 0 where
+    pub one : Demand1 (betaColumnGrounds 64 n p ρ (length units)) refusal units units′
+    pub later-units : refusal ≡ 0 → drop (n + 1) units′ ≡ drop (n + 1) units
+    pub row : refusal ≡ 0 → BetaRowDemands 100000
+    pub column : refusal ≡ 0
+        → Demand3Column n (keptTail Low n (keptBetaDefaults Low n p ρ)) (printedTail n (keptBetaDefaults Low n p ρ)) (chance (betaDefaults n p ρ)) units′
+
   -- The other correlation is 0.
   pub record ShiftDemands (before after : Slices) (shifts shifts′ : List ℤ) (refusal : ℕ) : Type 0 where
     pub leaves : EntriesDemands 100000 (shiftGrounds 64 n p ρ (lengthsOf before) (length shifts)) before after shifts shifts′ refusal
@@ -287,6 +312,15 @@ module _ (pool : Pool) where
       pub library : (refusalIn answer ≡ 11 → ⊥) → Replies lossRefusal distanceFor pool tranche (storeOf before) (storeOf after) (replyOf answer)
       pub same : (refusalIn answer ≡ 11 → ⊥) → (after₂ : Slices) (answer₂ : Answer)
           → Replies lossRefusal distanceFor pool tranche (storeOf before) (storeOf after₂) (replyOf answer₂) → (answer ≡ answer₂) × (after ≡ after₂)
+
+    -- The loss call of the beta-binomial model, which is lent no slice.
+    pub record BetaTrancheDemands (answer : Answer) : Type 0 where
+      pub number : refusalIn answer ≡ firstGround (betaLossGrounds 64 n p ρ R A B)
+      pub row : refusalIn answer ≡ 0 → BetaRowDemands 100000
+      pub wide : refusalIn answer ≡ 0 → 0 < (B - A) * n
+      pub loss : refusalIn answer ≡ 0 → (wide : 0 < (B - A) * n)
+          → AnswerDemands 100000 (keptLoss Low n (keptBetaDefaults Low n p ρ) R A B wide) (keptLoss High n (keptBetaDefaults High n p ρ) R A B wide)
+          (betaExactLoss n p ρ R A B wide) answer
 
 -- The slice is lent to be read, so that no call can write to it. Row k of a filled store has the significands of its bounds.
 pub record RowDemands (n k : ℕ) (significands part : List ℕ) (refusal : ℕ) : Type 0 where

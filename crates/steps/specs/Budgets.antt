@@ -25,16 +25,18 @@ lossBudget n b = b + 1 + suc n + 1
 pub record Bounded (b : ℕ) (r : Chances) (c : Side → ℕ → Kept) : Type 0 where
   pub bound : (side : Side) (j : ℕ) → j ≤ r .assets → Bound side b (c side j) (chance r j)
 
--- What the promises of a row rest on: entries of both sides within b parts of values v of at most one; these values times the counts of orders are the chances of
--- a complete row; no denominator is above 2^m. Every number is then within half of the 2^31 parts of its exact value, and no denominator of one is above
--- 2^79,968.
-pub record WithinBudget (b m : ℕ) (r : Chances) (v : ℕ → Fraction) (entry : Side → ℕ → Kept) : Type 0 where
+-- What the promises of a row rest on: entries of both sides within b parts of values v; these values times the counts of orders are the chances of a complete row.
+-- Every number is then within half of the 2^31 parts of its exact value.
+pub record WithinBudget (b : ℕ) (r : Chances) (v : ℕ → Fraction) (entry : Side → ℕ → Kept) : Type 0 where
   pub complete : Complete r
   pub entries : (side : Side) (j : ℕ) → j ≤ r .assets → Bound side b (entry side j) (v j)
-  pub at-most-one : (j : ℕ) → j ≤ r .assets → v j .num ≤ v j .den
   pub counted : (j : ℕ) → j ≤ r .assets → Same (times (integer (choose (r .assets) j)) (v j)) (chance r j)
+  pub parts : lossBudget (r .assets) (chanceBudget (r .assets) b) * 2 ≤ precision
+  pub assets : r .assets ≤ 100
+
+-- What the range of the exponents also rests on: values of at most one, and no denominator above 2^m, so that none of a number that is made is above 2^79,968.
+pub record WithinPlaces (m : ℕ) (r : Chances) (v : ℕ → Fraction) : Type 0 where
+  pub at-most-one : (j : ℕ) → j ≤ r .assets → v j .num ≤ v j .den
   pub denominators : (j : ℕ) → j ≤ r .assets → v j .den ≤ 2 ^ m
   pub denominator : r .denominator ≤ 2 ^ m
-  pub parts : lossBudget (r .assets) (chanceBudget (r .assets) b) * 2 ≤ precision
   pub places : m + 32 ≤ 79968
-  pub assets : r .assets ≤ 100

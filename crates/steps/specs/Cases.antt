@@ -25,11 +25,11 @@ use Rattle.steps.specs.CorrelatedBinomial.{keptDefaults}
 use Rattle.steps.specs.Loss.{untouched, faint, shown, keptLeastShown, raisedToShown, lossAnswer}
 
 -- s × 2^−(n+1)
-abbrev figure : (s n : ℕ) → Kept
+abbrev pub figure : (s n : ℕ) → Kept
 figure s n = record { significand = s; exponent = negsuc n }
 
 -- The significands of the low and the high side, at one exponent.
-abbrev Digits : (Side → Kept) → (low high n : ℕ) → Type 0
+abbrev pub Digits : (Side → Kept) → (low high n : ℕ) → Type 0
 Digits x low high n = (x Low ≡ figure low n) × (x High ≡ figure high n)
 
 -- The tail at k of n assets, what is printed for it, and the printed row.

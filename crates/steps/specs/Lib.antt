@@ -10,4 +10,5 @@ pub mod Exponents
 pub mod Numbers
 pub mod Promises
 pub mod CorrelatedBinomial
+pub mod BetaBinomial
 pub mod Cases

@@ -8,7 +8,7 @@ use trial_support::write;
 use trial_support::write_bits;
 use trial_support::write_integer;
 use trial_support::write_number;
-ghost use Prim.Native.Nat.{_<_};
+ghost use Prim.Native.Nat.{_<_, _^_};
 ghost use Rattle.kept.specs.Rounding.{Operand};
 
 fn write_kept(x: Kept) {
@@ -101,6 +101,19 @@ fn basis_points(p: u32) {
     write_results(
         Kept::from_basis_points(p, Side::Low),
         Kept::from_basis_points(p, Side::High),
+    );
+}
+
+fn ratio(n: u64, m: u64)
+    requires { ⌜ 0 < m ⌝ ∗ ⌜ m < 2 ^ 34 ⌝ }
+{
+    write(b"ratio ");
+    write_number(n);
+    write(b" ");
+    write_number(m);
+    write_results(
+        Kept::from_ratio(n, m, Side::Low),
+        Kept::from_ratio(n, m, Side::High),
     );
 }
 
@@ -219,6 +232,26 @@ fn edge_quotient(n: u32) {
     quotient(x, edge_divisor(n / 8));
 }
 
+fn edge_ratio_divisor(i: u32) -> u64
+    ensures { λ r. ⌜ 0 < r ⌝ ∗ ⌜ r < 2 ^ 34 ⌝ }
+{
+    match i {
+        0 => 1,
+        1 => 3,
+        2 => 10_000,
+        3 => 0xffff_ffff,
+        4 => 0x1_0000_0000,
+        5 => 0x1_0000_0001,
+        6 => 0x2_aaaa_aaab,
+        7 => 0x3_0000_0000,
+        _ => 0x3_ffff_ffff,
+    }
+}
+
+fn edge_ratio(n: u32) {
+    ratio(edge_integer(n % 18), edge_ratio_divisor(n / 18));
+}
+
 fn shown_exponent(i: u32) -> i32 {
     match i {
         0 => -832,
@@ -258,6 +291,35 @@ fn random_case(first: u64, second: u64) {
     shown(x);
 }
 
+fn random_divisor(word: u64) -> u64
+    ensures { λ r. ⌜ 0 < r ⌝ ∗ ⌜ r < 2 ^ 34 ⌝ }
+{
+    word % 0x3_ffff_ffff + 1
+}
+
+// From 2^20 + 1 to 2^21 − 1.
+fn random_odd(word: u64) -> u32
+    ensures { λ r. ⌜ 0 < r ⌝ ∗ ⌜ r < 2 ^ 21 ⌝ }
+{
+    (word % 0x8_0000) as u32 * 2 + 0x10_0001
+}
+
+fn wide_product(n: u32, m: u32) -> u64 {
+    n as u64 * m as u64
+}
+
+// Numbers of full and of random length, then a quotient of 32 digits at most that leaves nothing.
+fn random_ratio(first: u64, second: u64) {
+    ratio(first, random_divisor(second));
+    ratio(
+        first >> (second % 64),
+        random_divisor(second >> (first % 64)),
+    );
+    let odd = random_odd(first);
+    let n = wide_product(odd, random_significand(second));
+    ratio(n, odd as u64 * 0x2000);
+}
+
 enum Family {
     Integers,
     BasisPoints,
@@ -266,6 +328,8 @@ enum Family {
     Quotients,
     Shown,
     Random,
+    Ratios,
+    RandomRatios,
 }
 
 fn case(family: Family, n: u32, word: u64) {
@@ -277,6 +341,8 @@ fn case(family: Family, n: u32, word: u64) {
         Family::Quotients => edge_quotient(n),
         Family::Shown => edge_shown(n),
         Family::Random => random_case(word, next(word)),
+        Family::Ratios => edge_ratio(n),
+        Family::RandomRatios => random_ratio(word, next(word)),
     }
 }
 
@@ -299,4 +365,6 @@ fn main() {
     shown(operand(0, 0));
     cases(Family::Shown, 7 * 8);
     cases(Family::Random, 250);
+    cases(Family::Ratios, 18 * 9);
+    cases(Family::RandomRatios, 100);
 }

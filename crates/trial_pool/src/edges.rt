@@ -58,6 +58,7 @@ pub enum List {
     Column,
     Shifts,
     ScreenColumn,
+    BetaColumn,
 }
 
 // That call, with so many places for the list.
@@ -66,6 +67,7 @@ fn listing(list: List, places: usize) -> Call {
         List::Column => Call::Column(places),
         List::Shifts => Call::Shifts(places),
         List::ScreenColumn => Call::ScreenColumn(places),
+        List::BetaColumn => Call::BetaColumn(places),
     }
 }
 
@@ -76,7 +78,7 @@ fn list_ample(list: List, assets: u32, probability: u32, correlation: u32) {
     );
 }
 
-fn list_pools(list: List) {
+pub fn list_pools(list: List) {
     list_ample(list, 3, 1_000, 3_000);
     list_ample(list, 0, 1_000, 3_000);
     list_ample(list, 64, 1_000, 3_000);
@@ -92,6 +94,22 @@ fn list_ends(list: List, assets: u32) {
     later_ends(listing(list, ROWS), assets);
 }
 
+// A correlation at and next to its ends.
+fn list_correlations(list: List, assets: u32, probability: u32) {
+    list_ample(list, assets, probability, 0);
+    list_ample(list, assets, probability, 1);
+    list_ample(list, assets, probability, 9_999);
+    list_ample(list, assets, probability, 10_000);
+}
+
+// And a probability.
+pub fn list_corners(list: List, assets: u32) {
+    list_correlations(list, assets, 0);
+    list_correlations(list, assets, 1);
+    list_correlations(list, assets, 9_999);
+    list_correlations(list, assets, 10_000);
+}
+
 // Also a list one place short, alone and with a slice, and longer.
 pub fn list_lengths(list: List, assets: u32, exact: usize, short: usize, entries: usize)
     requires { ⌜ exact ≤ 2145 ⌝ ∗ ⌜ 1 ≤ entries ⌝ ∗ ⌜ entries ≤ 65 ⌝ }
@@ -104,8 +122,8 @@ pub fn list_lengths(list: List, assets: u32, exact: usize, short: usize, entries
     longer_lengths(listing(list, entries + 5), pool, exact);
 }
 
-// Tails that are exactly half way between two units on the low side; then two whose low side is below that.
-fn list_half_way(list: List) {
+// Tails of Moody's model that are exactly half way between two units on the low side; then two whose low side is below that.
+pub fn list_half_way(list: List) {
     list_ample(list, 2, 1_250, 0);
     list_ample(list, 2, 2_500, 2_500);
     list_ample(list, 2, 5_000, 625);
@@ -121,6 +139,7 @@ fn list_half_way(list: List) {
     list_ample(list, 2, 1_150, 0);
 }
 
+// Of a call that is lent a store.
 pub fn lists(list: List) {
     list_pools(list);
     list_ends(list, 1);

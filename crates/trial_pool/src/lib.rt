@@ -6,7 +6,10 @@ mod random;
 pub use edges::List;
 pub use edges::exact_lengths;
 pub use edges::later_ends;
+pub use edges::list_corners;
+pub use edges::list_half_way;
 pub use edges::list_lengths;
+pub use edges::list_pools;
 pub use edges::lists;
 pub use edges::longer_lengths;
 pub use edges::no_places;
@@ -36,8 +39,8 @@ const INTEGER_MARK: i32 = 1_000_007;
 // How many places are lent: of the low and the high significands, then of the low and the high exponents.
 pub struct Lengths(pub usize, pub usize, pub usize, pub usize);
 
-// A call on a store, with what it takes beside it: the number of a row, how many places of a column or of a shift list are lent, a
-// tranche.
+// A call, with what it takes beside the pool and the store: the number of a row, how many places of a column or of a shift list
+// are lent, a tranche. Those of the beta-binomial are lent no store.
 pub enum Call {
     Fill,
     Row(u32),
@@ -46,6 +49,8 @@ pub enum Call {
     Loss(Tranche),
     ScreenColumn(usize),
     ScreenLoss(Tranche),
+    BetaColumn(usize),
+    BetaLoss(Tranche),
 }
 
 // A pool for the calls that take no recovery.
@@ -105,19 +110,36 @@ fn write_call(call: Call, pool: Pool) {
             write(b"screen ");
             write_loss_call(pool, tranche);
         }
+        Call::BetaColumn(_) => {
+            write(b"beta column");
+            write_pool(pool);
+        }
+        Call::BetaLoss(tranche) => {
+            write(b"beta ");
+            write_loss_call(pool, tranche);
+        }
     }
 }
 
-fn write_lengths(call: Call, lengths: Lengths) {
+fn write_store_lengths(lengths: Lengths) {
     write(b" lengths");
     write_length(lengths.0);
     write_length(lengths.1);
     write_length(lengths.2);
     write_length(lengths.3);
+}
+
+fn write_lengths(call: Call, lengths: Lengths) {
+    match call {
+        Call::BetaColumn(_) => write(b" length"),
+        Call::BetaLoss(_) => write(b""),
+        _ => write_store_lengths(lengths),
+    }
     match call {
         Call::Column(places) => write_length(places),
         Call::Shifts(places) => write_length(places),
         Call::ScreenColumn(places) => write_length(places),
+        Call::BetaColumn(places) => write_length(places),
         _ => write(b""),
     }
 }
@@ -142,7 +164,17 @@ fn write_given(other: Pool, call: Call, pool: Pool, lengths: Lengths) {
     }
 }
 
-// The end of a line: what the arrays hold, unless the call only reads.
+// Whether a call writes to a store.
+fn writes_store(call: Call) -> bool {
+    match call {
+        Call::Row(_) => false,
+        Call::BetaColumn(_) => false,
+        Call::BetaLoss(_) => false,
+        _ => true,
+    }
+}
+
+// The end of a line: what the arrays hold, if the call writes to them.
 fn write_store(
     call: Call,
     low_significands: &[u32],
@@ -150,7 +182,7 @@ fn write_store(
     low_exponents: &[i32],
     high_exponents: &[i32],
 ) {
-    if let Call::Row(_) = call {
+    if !writes_store(call) {
         write(b"\n");
         return;
     }
@@ -305,6 +337,12 @@ fn answer_column(
     write_column(pool, refusal, &units);
 }
 
+fn answer_beta_column(pool: Pool, length: usize) {
+    let mut units = [MARK; ROWS];
+    let refusal = beta_binomial::column(pool, first_naturals(&mut units, length));
+    write_column(pool, refusal, &units);
+}
+
 fn answer_shifts(
     pool: Pool,
     length: usize,
@@ -385,6 +423,8 @@ fn answer(
             low_exponents,
             high_exponents,
         )),
+        Call::BetaColumn(length) => answer_beta_column(pool, length),
+        Call::BetaLoss(tranche) => write_answer(beta_binomial::tranche_loss(pool, tranche)),
     }
 }
 

@@ -7,11 +7,12 @@ use pool::Tranche;
 use trial_support::next;
 
 // Which calls are run: fill, column and loss; the shift list; column and loss of pools of 1 to 20 assets, by the library and on the
-// screen.
+// screen; column and loss of the beta-binomial.
 pub enum Calls {
     Library,
     Shifts,
     Screen,
+    Beta,
 }
 
 // Basis points: one in eight above 10,000, three in eight at 0, 1 or 10,000, and small numbers more often than by chance.
@@ -122,6 +123,10 @@ fn run_calls(calls: Calls, pool: Pool, tranche: Tranche) {
             run_ample(Call::ScreenColumn(ROWS), pool);
             run_ample(Call::Loss(tranche), pool);
             run_ample(Call::ScreenLoss(tranche), pool);
+        }
+        Calls::Beta => {
+            run_ample(Call::BetaColumn(ROWS), pool);
+            run_ample(Call::BetaLoss(tranche), pool);
         }
     }
 }

@@ -12,13 +12,11 @@ use Rattle.kept.specs.declared.Side.{Side}
 use Rattle.kept.specs.declared.Side.the-variants.{Low, High}
 use Rattle.kept.specs.Accuracy.{BudgetFor}
 use Rattle.steps.specs.Inputs.{workingAssets, TrancheInRange}
-use Rattle.steps.specs.Budgets.{chanceBudget, lossBudget, WithinBudget}
+use Rattle.steps.specs.Budgets.{chanceBudget, lossBudget, WithinBudget, WithinPlaces}
 use Rattle.steps.specs.Chances.Laws.{tail-bound, loss-kept}
 use Rattle.steps.specs.Column.Laws.{printed-falls}
-use Rattle.steps.specs.Exponents.{Ranged}
-use Rattle.steps.specs.Exponents.Laws.{bound-ranged, unscaled}
 use Rattle.steps.specs.Loss.Laws.{high-to-two}
-use Rattle.steps.specs.Promises.Laws.{chances-bounded, steps-ranged, row-enclosed}
+use Rattle.steps.specs.Promises.Laws.{chances-bounded, entries-ranged, steps-ranged, row-enclosed}
 use Rattle.working.specs.Working.{workingPlaces, Entries}
 use Rattle.chances.specs.Chances.{StepsReady}
 use Rattle.chances.specs.Tails.{ColumnReady}
@@ -29,21 +27,15 @@ unfolding certainty integer
 certainty-at-most-two = omega arith
 
 module _
-    {b m : ℕ} {r : Chances} {v : ℕ → Fraction} {entry : Side → ℕ → Kept} (within : WithinBudget b m r v entry)
+    {b m : ℕ} {r : Chances} {v : ℕ → Fraction} {entry : Side → ℕ → Kept} (within : WithinBudget b r v entry) (placed : WithinPlaces m r v)
     (works : r .assets ≤ workingAssets) where
-  entry-ranged : (side : Side) (j : ℕ) → j ≤ r .assets → Ranged (entry side j)
-  unfolding lossBudget chanceBudget
-  entry-ranged side j l =
-      bound-ranged (within .entries side j l) m 0 (within .denominators j l) (unscaled (within .at-most-one j l))
-      (omega (arith, within .parts, within .places))
-
   pub steps-ready : (side : Side) {row : List Kept} → Entries workingPlaces (suc (r .assets)) row (entry side) → StepsReady side (r .assets) row
   steps-ready side entries = record {
     assets = works;
     entry = entry side;
     entries = entries;
-    entry-ranged = entry-ranged side;
-    ranged = steps-ranged within side;
+    entry-ranged = entries-ranged within placed side;
+    ranged = steps-ranged within placed side;
   }
 
   pub column-ready : {row : List Kept} → Entries workingPlaces (suc (r .assets)) row (entry Low) → ColumnReady (r .assets) row

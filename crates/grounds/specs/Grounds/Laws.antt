@@ -1,4 +1,5 @@
--- The first ground of two lists, what the inputs of an accepted call are, when a column is refused as its pool is, and when the screen refuses as the library.
+-- The first ground of two lists, what the inputs of an accepted call are, when a column is refused as its pool is, and when the screen and the beta-binomial
+-- refuse as the library.
 -- Assumes nothing.
 use Prim.Native.Nat.{ℕ, zero, suc, _+_, _*_, _≤_, _<_}
 use mathlib.Core.Path.{_≡_, refl, sym, ap, subst, _∙_}
@@ -13,9 +14,10 @@ use Rattle.model.specs.Number.{triangle}
 use Rattle.model.specs.Number.Laws.{triangle-closed, triangle-mono}
 use Rattle.steps.specs.Inputs.{TrancheInRange}
 use Rattle.grounds.specs.Grounds.{Ground, firstOf, firstGround, storePlaces, someShorter, assetsGround, probabilityGround, correlationGround}
-use Rattle.grounds.specs.Grounds.{recoveryGround, upperGround, attachmentsGround, storeGround, entriesGround, rowGround, screenGround, poolGrounds, trancheGrounds}
-use Rattle.grounds.specs.Grounds.{fillGrounds, rowGrounds, entriesGrounds, columnGrounds, lossGrounds, screened, Screens}
+use Rattle.grounds.specs.Grounds.{recoveryGround, upperGround, attachmentsGround, storeGround, entriesGround, rowGround, screenGround, fullCorrelationGround, poolGrounds, trancheGrounds}
+use Rattle.grounds.specs.Grounds.{fillGrounds, rowGrounds, entriesGrounds, columnGrounds, lossGrounds, screened, Screens, betaPoolGrounds, betaColumnGrounds, betaLossGrounds}
 use Rattle.grounds.specs.Grounds.{PoolAccepted, EachAtLeast, FillAccepted, RowAccepted, EntriesAccepted, LossAccepted}
+use Rattle.grounds.specs.Grounds.{BetaPoolAccepted, BetaColumnAccepted, BetaLossAccepted}
 
 pub store-places : (n : ℕ) → storePlaces n ≡ triangle (suc n)
 unfolding storePlaces
@@ -177,16 +179,19 @@ row-accepted most n k length is none =
       row = ltb-false n k (off .1 .1 .0);
     }
 
+-- A slice that has room for entries 0 to n.
+room-accepted : {r : ℕ} (number n places : ℕ) → 0 < number → r ≡ firstGround (entriesGround number n places ∷ []) → r ≡ 0 → n < places
+unfolding entriesGround
+room-accepted number n places above is none =
+    let is-numbered : T (ltb 0 number && true) = rw (lt-ltb 0 number above) tt in
+    omega (arith, ltb-false places (n + 1) (none-applies (entriesGround number n places ∷ []) is-numbered is none .0))
+
 pub entries-accepted : {r : ℕ} (number most n p ρ : ℕ) (lengths : List ℕ) (places : ℕ) → 0 < number
     → r ≡ firstGround (entriesGrounds number most n p ρ lengths places) → r ≡ 0 → EntriesAccepted most n p ρ lengths places
-unfolding entriesGrounds entriesGround
+unfolding entriesGrounds
 entries-accepted number most n p ρ lengths places above is none =
     let parts = none-of-both (fillGrounds most n p ρ lengths) (entriesGround number n places ∷ []) is none in
-    let is-numbered : T (ltb 0 number && true) = rw (lt-ltb 0 number above) tt in
-    record {
-      fill = fill-accepted most n p ρ lengths refl (parts .0);
-      entries = omega (arith, ltb-false places (n + 1) (none-applies (entriesGround number n places ∷ []) is-numbered refl (parts .1) .0));
-    }
+    record { fill = fill-accepted most n p ρ lengths refl (parts .0); entries = room-accepted number n places above refl (parts .1) }
 
 pub loss-accepted : {r : ℕ} (most n p ρ R A B : ℕ) (lengths : List ℕ) → r ≡ firstGround (lossGrounds most n p ρ R A B lengths) → r ≡ 0
     → LossAccepted most n p ρ R A B lengths
@@ -198,6 +203,28 @@ loss-accepted most n p ρ R A B lengths is none =
       fill = record { pool = pool-accepted most n p ρ refl (parts .0); store = store-accepted n lengths refl (rest .1) };
       tranche = tranche-accepted R A B refl (rest .0);
     }
+
+pub beta-pool-accepted : {r : ℕ} (most n p ρ : ℕ) → r ≡ firstGround (betaPoolGrounds most n p ρ) → r ≡ 0 → BetaPoolAccepted most n p ρ
+unfolding betaPoolGrounds fullCorrelationGround
+beta-pool-accepted most n p ρ is none =
+    let parts = none-of-both (poolGrounds most n p ρ) (fullCorrelationGround ρ ∷ []) is none in
+    let pool = pool-accepted most n p ρ refl (parts .0) in
+    let not-whole = eqb-false ρ whole (none-applies (fullCorrelationGround ρ ∷ []) tt refl (parts .1) .0) in
+    record { pool = pool; below = omega (arith, pool .range .correlation) }
+
+pub beta-column-accepted : {r : ℕ} (most n p ρ units : ℕ) → r ≡ firstGround (betaColumnGrounds most n p ρ units) → r ≡ 0
+    → BetaColumnAccepted most n p ρ units
+unfolding betaColumnGrounds
+beta-column-accepted most n p ρ units is none =
+    let parts = none-of-both (betaPoolGrounds most n p ρ) (entriesGround 8 n units ∷ []) is none in
+    record { pool = beta-pool-accepted most n p ρ refl (parts .0); entries = room-accepted 8 n units (lit< tt) refl (parts .1) }
+
+pub beta-loss-accepted : {r : ℕ} (most n p ρ R A B : ℕ) → r ≡ firstGround (betaLossGrounds most n p ρ R A B) → r ≡ 0
+    → BetaLossAccepted most n p ρ R A B
+unfolding betaLossGrounds
+beta-loss-accepted most n p ρ R A B is none =
+    let parts = none-of-both (betaPoolGrounds most n p ρ) (trancheGrounds R A B) is none in
+    record { pool = beta-pool-accepted most n p ρ refl (parts .0); tranche = tranche-accepted R A B refl (parts .1) }
 
 -- ---- the refusal of a pool
 
@@ -232,6 +259,12 @@ column-refused-as-pool most n p ρ lengths units store column =
 
     no-column : firstGround (poolGrounds most n p ρ) ≡ 0 → firstGround (entriesGround 8 n units ∷ []) ≡ 0
     no-column none = rw (le-ltb units (n + 1) (omega (arith, few none))) refl
+
+-- Below full correlation, and above it, the beta-binomial refuses a pool as the library does.
+pub beta-refused-as-pool : (most n p ρ : ℕ) → (ρ ≡ whole → ⊥) → firstGround (betaPoolGrounds most n p ρ) ≡ firstGround (poolGrounds most n p ρ)
+unfolding firstOf firstGround betaPoolGrounds fullCorrelationGround
+beta-refused-as-pool most n p ρ not-whole =
+    rw (← first-append (poolGrounds most n p ρ) (fullCorrelationGround ρ ∷ []), ne-eqb ρ whole not-whole) (first-last (firstGround (poolGrounds most n p ρ)))
 
 -- ---- the refusals of the screen
 

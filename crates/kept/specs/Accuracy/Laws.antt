@@ -16,10 +16,10 @@ use Rattle.kept.specs.declared.Kept.{Kept}
 use Rattle.kept.specs.declared.Side.{Side}
 use Rattle.kept.specs.declared.Side.the-variants.{Low, High}
 use Rattle.kept.specs.Rounding.{Normal, IsKept, scaled, value, increment, carry, round}
-use Rattle.kept.specs.Rounding.{roundedProduct, roundedSum, roundedQuotient, ofInteger, ofBasisPoints}
+use Rattle.kept.specs.Rounding.{roundedProduct, roundedSum, roundedQuotient, ofInteger, ofBasisPoints, ofRatio}
 use Rattle.kept.specs.Rounding.Powers.{scaled-at-most}
 use Rattle.kept.specs.Rounding.Leading.{Between, nought-same, carry-value, increment-at-most-one}
-use Rattle.kept.specs.Rounding.Laws.{nought-kept, round-rounded, round-nought, by-leading}
+use Rattle.kept.specs.Rounding.Laws.{ratio-above, nought-kept, round-rounded, round-nought, by-leading}
 use Rattle.kept.specs.Accuracy.{precision, AtMostParts, Near, Bound, BudgetFor}
 
 pub precision-positive : 0 < precision
@@ -135,6 +135,9 @@ bound-integer side n = bound-round side (integer n)
 pub bound-basis-points : (side : Side) (p : ℕ) → Bound side 1 (ofBasisPoints side p) (over p 1)
 unfolding ofBasisPoints
 bound-basis-points side p = bound-round side (over p 1)
+
+pub bound-ratio : (side : Side) (n m : ℕ) (above : 0 < m) → Bound side 1 (ofRatio side n m) (divided (integer n) m above)
+bound-ratio side n m above = rw (ratio-above side n m above) (bound-round side (divided (integer n) m above))
 
 -- An operation that keeps the order, and takes relative errors of n and of m parts to k.
 record Operation (n m k : ℕ) (f : Fraction → Fraction → Fraction) : Type 0 where

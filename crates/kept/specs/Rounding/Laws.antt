@@ -1,6 +1,6 @@
 -- What rounding is: the greatest kept number not above, or the least not below. All else follows from that.
 -- Assumes nothing.
-use Prim.Native.Nat.{ℕ, suc, _+_, _-_, _*_, _/_, _%_, _^_, _≤_, _<_}
+use Prim.Native.Nat.{ℕ, zero, suc, _+_, _-_, _*_, _/_, _%_, _^_, _≤_, _<_}
 use mathlib.Core.Path.{_≡_, refl, sym, ap, ap₂}
 use mathlib.Core.Logic.{_⊎_, inl, inr}
 use native.Mathlib.Nat.{eq-zero-or-pos, zero-mul, zero-div, zero-mod, mul-le-mul-left, mul-le-mul-right, mul-pos}
@@ -19,7 +19,7 @@ use Rattle.kept.specs.declared.Kept.{Kept}
 use Rattle.kept.specs.declared.Side.{Side}
 use Rattle.kept.specs.declared.Side.the-variants.{Low, High}
 use Rattle.kept.specs.Rounding.{scaled, value, nought, unity, Normal, IsKept, OnSide, Rounded, increment, carry, round}
-use Rattle.kept.specs.Rounding.{roundedProduct, roundedSum, roundedQuotient, ofInteger, ofBasisPoints}
+use Rattle.kept.specs.Rounding.{roundedProduct, roundedSum, roundedQuotient, ofInteger, ofBasisPoints, ofRatio}
 use Rattle.kept.specs.Rounding.Powers.{power-below, scaled-shift, exponents}
 use Rattle.kept.specs.Rounding.Leading.{Between, between-same, between-quotient, nought-same, nought-at, side-same, rounded-leading}
 
@@ -202,6 +202,15 @@ module _ (side : Side) where
   pub basis-points-is : (p : ℕ) → Rounded side (over p 1) (ofBasisPoints side p)
   unfolding ofBasisPoints
   basis-points-is p = round-rounded side (over p 1)
+
+  -- The quotient by a number above zero.
+  pub ratio-above : (n m : ℕ) (above : 0 < m) → ofRatio side n m ≡ round side (divided (integer n) m above)
+  unfolding ofRatio divided
+  ratio-above n zero above = absurd (omega arith)
+  ratio-above n (suc m) above = round-cong side (record { cross = refl })
+
+  pub ratio-is : (n m : ℕ) (above : 0 < m) → Rounded side (divided (integer n) m above) (ofRatio side n m)
+  ratio-is n m above = rw (ratio-above n m above) (round-rounded side (divided (integer n) m above))
 
 -- Where the digits of a whole number are moved up to 32, they are a significand.
 normal-integer : {n : ℕ} → 0 < n → n < 2 ^ 32 → Normal (n * 2 ^ (32 - size n))

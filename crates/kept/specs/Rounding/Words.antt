@@ -6,7 +6,7 @@ use mathlib.Core.Logic.{inl, inr}
 use native.Mathlib.Nat.{eq-zero-or-pos, mul-le-mul-right, mul-lt-mul-of-pos-right}
 use native.Mathlib.Nat.{lt-of-mul-lt-mul-right, le-div-iff-mul-le, div-lt-iff-lt-mul, div-add-mod', mod-lt}
 use native.Mathlib.Nat.{two-pow-succ, mod-eq-of-lt, zero-add, zero-mul, zero-mod}
-use native.Mathlib.Nat.{lt-irrefl}
+use native.Mathlib.Nat.{lt-irrefl, le-trans, mul-add-div-right, mul-add-mod-self-right}
 use native.Mathlib.Omega.{arith}
 use lib.Count.{leadingZeros, leading-top}
 use mathlib.Core.Bool.{cond}
@@ -166,9 +166,35 @@ round-quotient side n m above e k rounds =
     let moved = divided-same m above (same-sym (scaled-shift n g k (sym (-ℤ-+ℤ-cancel e (pos k))))) in
     rounds (divided (scaled n e) m above) (between-same moved (between-quotient (n * 2 ^ k) m above g))
 
--- It has 32 digits or more where anything is left, for a divisor of 32 digits.
-pub quotient-many : {n m : ℕ} → Shifted n → 0 < m → m < 2 ^ 32 → 0 < n * 2 ^ shiftOf n % m → 2 ^ 31 ≤ n * 2 ^ shiftOf n / m
-quotient-many {n} {m} word above small more = elim (eq-zero-or-pos n) [
-  | inl none ↦ absurd (lt-irrefl 0 (rw (none, zero-mul, zero-mod) at more))
-  | inr some ↦ le-div-iff-mul-le above .1 (omega (arith, word .least some))
+-- It is b or more where n is not zero, for a divisor that is small enough.
+pub quotient-least : {n m : ℕ} (b : ℕ) → Shifted n → 0 < m → b * m ≤ 2 ^ 63 → 0 < n → b ≤ n * 2 ^ shiftOf n / m
+quotient-least b word above small some = le-div-iff-mul-le above .1 (le-trans small (word .least some))
+
+-- Where anything is left, n is not zero.
+pub left-positive : (n x m : ℕ) → (n ≡ 0 → x ≡ 0) → 0 < x % m → 0 < n
+left-positive n x m zero more = elim (eq-zero-or-pos n) [
+  | inl none ↦ absurd (lt-irrefl 0 (rw (zero none, zero-mod) at more))
+  | inr some ↦ some
 ]
+
+-- ---- the same by long division
+
+-- The digits that the remainder gives follow those of the quotient.
+module _ (w c : ℕ) {m : ℕ} (above : 0 < m) where
+  dividend : w / m * c * m + w % m * c ≡ w * c
+  dividend = omega (arith, ap (λ k. k * c) (div-add-mod' w m))
+
+  pub long-quotient : w / m * c + w % m * c / m ≡ w * c / m
+  long-quotient = sym (mul-add-div-right above (w / m * c) (w % m * c)) ∙ ap (λ k. k / m) dividend
+
+  long-rest : w % m * c % m ≡ w * c % m
+  long-rest = sym (mul-add-mod-self-right (w / m * c) m (w % m * c)) ∙ ap (λ k. k % m) dividend
+
+-- n × c × 2^e / m by long division of n shifted up.
+pub round-long-quotient : (side : Side) (n c m : ℕ) (above : 0 < m) (e : ℤ) (k : ℕ) {r : Kept}
+    → ((z : Fraction) → Between (n * 2 ^ k / m * c + n * 2 ^ k % m * c / m) (n * 2 ^ k % m * c % m) (e -ℤ pos k) z → r ≡ round side z)
+    → r ≡ round side (divided (scaled (n * c) e) m above)
+round-long-quotient side n c m above e k rounds =
+    let w = n * 2 ^ k in
+    let moved : n * 2 ^ k * c ≡ n * c * 2 ^ k = omega arith in
+    round-quotient side (n * c) m above e k (rw (long-quotient w c above, long-rest w c above, moved) at rounds)

@@ -1,15 +1,15 @@
--- Laws of tails, mean and expected loss, for a row of chances in general.
+-- Laws of tails, mean and expected loss, and of the same chances over another denominator, for a row of chances in general.
 -- Assumes nothing.
 use Prim.Native.Nat.{ℕ, zero, suc, _+_, _*_, _-_, _≤_, _<_, min}
 use mathlib.Core.Path.{_≡_, refl, ap, _∙_}
 use native.Mathlib.Omega.{arith}
 use native.Mathlib.Decide.{decLe}
-use native.Mathlib.Nat.{add-zero, zero-add, add-suc, sub-zero, sub-eq-zero-of-le, add-sub-of-le, le-refl, le-trans, min-le-right, mul-pos, mul-le-mul-left, mul-le-mul-right}
+use native.Mathlib.Nat.{add-zero, zero-add, add-suc, sub-zero, sub-eq-zero-of-le, add-sub-of-le, le-refl, le-trans, le-of-suc-le-suc, min-le-right, mul-comm, mul-pos, mul-le-mul-left, mul-le-mul-right, eq-of-mul-eq-mul-right}
 use lib.IntN.{pos, _-ℤ_, _*ℤ_}
 use Rattle.model.specs.Number.{sum, sumBetween, raise}
-use Rattle.model.specs.Number.Laws.{sum-last, between-first, between-none, between-total, raised-cut, raised-minus, raised-times}
+use Rattle.model.specs.Number.Laws.{sum-as, sum-last, between-first, between-none, between-total, raised-cut, raised-minus, raised-times}
 use Rattle.model.specs.Fraction.{Same, AtMost, certainty, whole, complement}
-use Rattle.model.specs.Chances.{Chances, Complete, share, tailNumerator, tail, mean, tailsTotal, lossAbove, lossUnits, lossUnitsCutFirst, lossNumerator, expectedLoss}
+use Rattle.model.specs.Chances.{Chances, Complete, SameChances, share, chance, tailNumerator, tail, mean, tailsTotal, lossAbove, lossUnits, lossUnitsCutFirst, lossNumerator, expectedLoss}
 
 -- ---- tails and mean
 
@@ -59,6 +59,28 @@ module _ (r : Chances) where
 
     pub chance-at-most : {j : ℕ} → j ≤ r .assets → r .numerator j ≤ r .denominator
     chance-at-most {j} l = omega (arith, tail-next l, tail-at-most j)
+
+-- ---- the same chances over another denominator
+
+module _ {r s : Chances} (same : SameChances r s) where
+  numerators-as : (j : ℕ) → j < suc (r .assets) → r .numerator j * s .denominator ≡ s .numerator j * r .denominator
+  unfolding chance share
+  numerators-as j l = same .chances j (le-of-suc-le-suc l) .cross
+
+  pub complete-same : Complete s → Complete r
+  complete-same complete =
+      eq-of-mul-eq-mul-right (s .denominator) (s .positive) _ _
+      (sum-as (suc (r .assets)) (s .denominator) (r .denominator) (r .numerator) (s .numerator) numerators-as
+      ∙ rw (same .assets, complete) (mul-comm (s .denominator) (r .denominator)))
+
+  pub mean-same : Same (mean r) (mean s)
+  unfolding mean share
+  mean-same = record {
+    cross =
+        sum-as (suc (r .assets)) (s .denominator) (r .denominator) (λ j. j * r .numerator j) (λ j. j * s .numerator j)
+        (λ j l. omega (arith, ap (λ z. j * z) (numerators-as j l)))
+        ∙ rw (same .assets) refl;
+  }
 
 -- ---- loss units
 

@@ -1,18 +1,17 @@
 -- The rows made by the passes split: P(j,k+1) + P(j+1,k+1) = P(j,k). From that alone follow the closed form, the total and the mean.
 -- Assumes nothing.
-use Prim.Native.Nat.{ℕ, zero, suc, _+_, _*_, _-_, _^_, _≤_, _<_, zero-le}
+use Prim.Native.Nat.{ℕ, zero, suc, _+_, _*_, _-_, _^_, _≤_}
 use mathlib.Core.Path.{_≡_, refl, _∙_, ap}
 use native.Mathlib.Omega.{arith}
-use native.Mathlib.Nat.{add-zero, zero-add, add-suc, suc-add, one-mul, mul-one, sub-zero, sub-self, suc-sub-suc, pow-succ', pow-zero, le-refl, le-of-suc-le-suc, mul-le-mul, mul-le-mul-left}
-use native.Mathlib.Numerals.{one-add}
+use native.Mathlib.Nat.{add-zero, add-suc, suc-add, one-mul, suc-sub-suc, pow-succ', pow-zero, le-refl, mul-le-mul, mul-le-mul-left, eq-of-mul-eq-mul-left}
 use native.Mathlib.Decide.{decLe}
 use borrow.Author.Tests.{lt-ltb, le-ltb}
 use lib.Pow.{pow-add}
-use Rattle.model.specs.Number.{sum, choose, binomialSum, triangle}
-use Rattle.model.specs.Number.Laws.{pascal, binomial-times, binomial-mean, triangle-mono}
-use Rattle.model.specs.Splitting.{Splits, binomial-of-splits}
-use Rattle.model.specs.Fraction.{whole, complement}
-use Rattle.model.specs.Fraction.Laws.{complement-law}
+use Rattle.model.specs.Number.{sum, product, productBetween, choose, binomialSum, triangle}
+use Rattle.model.specs.Number.Laws.{product-none, product-parts, pascal, binomial-times, triangle-mono}
+use Rattle.model.specs.Splitting.{SplitsBy, rows-total, rows-mean, rows-at-most}
+use Rattle.model.specs.Fraction.{whole, complement, whole-power-positive}
+use Rattle.model.specs.Fraction.Laws.{complement-law, whole-once}
 use Rattle.model.specs.Passes.{folded}
 use Rattle.model.specs.Passes.Laws.{passed-all}
 use Rattle.model.specs.CorrelatedBinomial.{conditional, joint, passStep, rowEntry}
@@ -47,11 +46,31 @@ folded-binomial ρ f (suc s) j =
           (λ i l. rw (suc-sub-suc s i, pow-succ' ρ i, add-suc j i, suc-add j i) (omega arith)),
     )
 
--- D^(T(K)−T(k)) = D^(k+1) × D^(T(K)−T(k+1))
-power-apart : {k K : ℕ} → k < K → whole ^ (triangle K - triangle k) ≡ whole ^ suc k * whole ^ (triangle K - triangle (suc k))
-unfolding triangle
-power-apart {k} {K} l =
-    ap (λ t. whole ^ t) (omega (arith, triangle-mono l)) ∙ pow-add whole (suc k) (triangle K - (triangle k + suc k))
+-- The factors by which the rows split, D^(i+1) for row i: those before row k, and those from row k up to row n.
+pub powers-product : (k : ℕ) → product k (λ i. whole ^ suc i) ≡ whole ^ triangle k
+unfolding product triangle
+powers-product zero = rw (pow-zero whole)
+powers-product (suc k) = rw (powers-product k, pow-add whole (triangle k) (suc k))
+
+pub powers-between : (k n : ℕ) → productBetween k n (λ i. whole ^ suc i) ≡ whole ^ (triangle n - triangle k)
+powers-between k n = elim (decLe k n) [
+  | yes l ↦
+      let d : ℕ = n - k in
+      let there : k + d ≡ n = omega arith in
+      let apart : triangle n ≡ triangle k + (triangle n - triangle k) = omega (arith, triangle-mono l) in
+      let power = ap (λ t. whole ^ t) apart ∙ pow-add whole (triangle k) (triangle n - triangle k) in
+      eq-of-mul-eq-mul-left (whole ^ triangle k) (whole-power-positive (triangle k)) _ _
+      (omega (
+        arith,
+        power,
+        powers-product n,
+        ap (λ z. z * productBetween k n (λ i. whole ^ suc i)) (powers-product k),
+        rw there at (product-parts (λ i. whole ^ suc i) k d),
+      ))
+  | no l ↦
+      let none : triangle n - triangle k ≡ 0 = omega (arith, triangle-mono {i = n} {k = k} (omega arith)) in
+      rw (product-none n (λ i. whole ^ suc i) {k = k} (omega arith), none, pow-zero whole)
+]
 
 module _ (p ρ : ℕ) where
   -- Entry k of row k is m_k.
@@ -71,7 +90,7 @@ module _ (p ρ : ℕ) where
     -- 1 − p_(k+1) = a × q^k
     conditional-complement : (k : ℕ) → conditional p ρ k + complement p * complement ρ ^ k ≡ whole ^ suc k
     unfolding conditional
-    conditional-complement zero = rw (pow-zero (complement ρ), pow-succ' whole 0, pow-zero whole) (omega (arith, complement-law p≤1))
+    conditional-complement zero = rw (pow-zero (complement ρ), whole-once) (omega (arith, complement-law p≤1))
     conditional-complement (suc k) =
         rw (pow-succ' (complement ρ) k, pow-succ' whole (suc k))
         (omega (
@@ -111,52 +130,24 @@ module _ (p ρ : ℕ) where
       | no m ↦ let last : j ≡ suc k = omega arith in rw last (last-splits (suc k))
     ]
 
-    -- The same with all rows down to row K over D^T(K).
-    pub scaled-rows-split : (K : ℕ) → Splits K (λ k j. rowEntry p ρ k j * whole ^ (triangle K - triangle k))
-    scaled-rows-split K k j k<K j≤k =
-        rw (power-apart k<K)
-        (omega (arith, ap (λ z. z * whole ^ (triangle K - triangle (suc k))) (row-splits j≤k)))
-
-    -- Entry j of row k from the entries of the row that is s below it.
-    rows-binomial : (s k j : ℕ) → j ≤ k
-        → binomialSum s (λ i. rowEntry p ρ (k + s) (j + i)) ≡ rowEntry p ρ k j * whole ^ (triangle (k + s) - triangle k)
-    rows-binomial s k j l =
-        let entry : ℕ → ℕ → ℕ = λ n i. rowEntry p ρ n i * whole ^ (triangle (k + s) - triangle n) in
-        simp (sub-self, pow-zero, mul-one) at (binomial-of-splits (k + s) entry (scaled-rows-split (k + s)) s k j (le-refl (k + s)) l)
+    pub rows-split : SplitsBy (λ k. whole ^ suc k) (rowEntry p ρ)
+    rows-split k j l = row-splits l
 
     -- The entries of row n, each with its count of orders, add to D^T(n).
     pub row-total : (n : ℕ) → binomialSum n (λ j. rowEntry p ρ n j) ≡ whole ^ triangle n
-    unfolding rowEntry triangle
-    row-total n = simp (zero-add, sub-zero, one-mul) at (rows-binomial n 0 0 (le-refl 0))
+    unfolding rowEntry
+    row-total n = rows-total (λ k. whole ^ suc k) (rowEntry p ρ) rows-split refl n ∙ powers-product n
 
     -- The same with j defaults counted j times.
     pub row-mean : (n : ℕ) → sum (suc n) (λ j. j * (choose n j * rowEntry p ρ n j)) * whole ≡ n * p * whole ^ triangle n
-    unfolding sum joint conditional triangle whole
-    row-mean zero = omega arith
-    row-mean (suc n) =
-        let t : ℕ = whole ^ (triangle (suc n) - 1) in
-        let power : whole ^ triangle (suc n) ≡ whole * t = simp sub-zero at (power-apart {k = 0} {K = suc n} (omega arith)) in
-        let rest : binomialSum n (λ i. rowEntry p ρ (suc n) (suc i)) ≡ rowEntry p ρ 1 1 * t = simp one-add at (rows-binomial n 1 1 (le-refl 1)) in
-        omega (
-          arith,
-          ap (λ z. z * whole) (binomial-mean n (rowEntry p ρ (suc n))),
-          ap (λ z. suc n * whole * z) rest,
-          ap (λ z. suc n * whole * t * z) (row-last 1),
-          ap (λ z. suc n * p * z) power,
-        )
-
-    -- Both parts of an entry that is at most one are at most one.
-    parts-at-most : {j k : ℕ} → j ≤ k → rowEntry p ρ k j ≤ whole ^ triangle k
-        → (rowEntry p ρ (suc k) j ≤ whole ^ triangle (suc k)) × (rowEntry p ρ (suc k) (suc j) ≤ whole ^ triangle (suc k))
-    unfolding triangle
-    parts-at-most {j} {k} l m = rw (pow-add whole (triangle k) (suc k)) (omega (arith, row-splits l, mul-le-mul-left (whole ^ suc k) m))
+    unfolding joint conditional
+    row-mean n =
+        simp (row-last 1, powers-product n, whole-once, one-mul) at (rows-mean (λ k. whole ^ suc k) (rowEntry p ρ) rows-split n)
 
     -- P(j,k) is at most one.
     pub row-at-most : (k j : ℕ) → j ≤ k → rowEntry p ρ k j ≤ whole ^ triangle k
-    unfolding rowEntry triangle
-    row-at-most zero j l = rw (pow-zero whole) (le-refl 1)
-    row-at-most (suc k) zero l = parts-at-most {k = k} zero-le (row-at-most k zero zero-le) .0
-    row-at-most (suc k) (suc j) l = parts-at-most (le-of-suc-le-suc l) (row-at-most k j (le-of-suc-le-suc l)) .1
+    unfolding rowEntry
+    row-at-most k j l = rw (← powers-product k) (rows-at-most (λ i. whole ^ suc i) (rowEntry p ρ) rows-split refl k j l)
 
     pub conditional-at-most : (k : ℕ) → conditional p ρ k ≤ whole ^ suc k
     conditional-at-most k = omega (arith, conditional-complement k)

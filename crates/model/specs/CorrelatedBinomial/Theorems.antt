@@ -1,30 +1,52 @@
 -- The theorems of the correlated binomial model, for every default probability p and correlation ρ from 0 to 10,000 and with no bound on the number of
--- assets: the three forms of P(j,k) agree, P splits and is never negative, the chances add to one, the mean is n × p.
+-- assets: the closed form is that of any correlation at a constant one, the three forms of P(j,k) agree, P splits and is never negative, the chances add to one, the mean is n × p.
 -- Assumes nothing.
-use Prim.Native.Nat.{ℕ, suc, _+_, _*_, _-_, _^_, _≤_, _<_}
-use mathlib.Core.Path.{_≡_, sym, _∙_, ap}
+use Prim.Native.Nat.{ℕ, zero, suc, _+_, _*_, _-_, _^_, _≤_, _<_}
+use mathlib.Core.Path.{_≡_, refl, sym, _∙_, ap, ap₂}
 use native.Mathlib.Omega.{arith}
-use native.Mathlib.Nat.{sub-self, mul-one, le-of-suc-le-suc, add-sub-of-le, pow-zero, le-refl, mul-le-mul-right}
+use native.Mathlib.Nat.{pow-succ', le-of-suc-le-suc, add-sub-of-le, le-refl, mul-le-mul-right}
 use lib.Pow.{pow-add}
 use lib.IntN.{pos}
-use Rattle.model.specs.Number.{choose, triangle, binomialSum, raise}
-use Rattle.model.specs.Number.Laws.{sum-cong, binomial-cong}
-use Rattle.model.specs.Splitting.{alternating-of-splits}
+use Rattle.model.specs.Number.{product, productBetween, choose, triangle, binomialSum, raise}
+use Rattle.model.specs.Number.Laws.{sum-cong, product-cong, product-const, binomial-cong, alternating-cong}
+use Rattle.model.specs.Splitting.{rows-alternating}
 use Rattle.model.specs.Fraction.{Fraction, Same, AtMost, plus, whole, complement, certainty, over}
-use Rattle.model.specs.Fraction.Laws.{same-trans}
+use Rattle.model.specs.Fraction.Laws.{fraction-fields, same-trans}
 use Rattle.model.specs.Chances.{Complete, mean, tailsTotal, share}
 use Rattle.model.specs.Chances.Laws.{tails-total}
-use Rattle.model.specs.CorrelatedBinomial.{joint, closedForm, probability, defaults, withoutSubtraction, rowEntry, scaledJoint}
-use Rattle.model.specs.CorrelatedBinomial.Rows.{row-last, row-next, row-splits, folded-binomial, row-total, row-mean, row-at-most, scaled-rows-split}
+use Rattle.model.specs.ClosedForm.{constantly, conditionalDen, jointDen, conditionalBy, jointBy, closedFormBy, probabilityBy}
+use Rattle.model.specs.CorrelatedBinomial.{conditional, joint, closedForm, probability, defaults, withoutSubtraction, rowEntry, scaledJoint}
+use Rattle.model.specs.CorrelatedBinomial.Rows.{row-last, row-next, row-splits, folded-binomial, row-total, row-mean, row-at-most, rows-split, powers-product, powers-between}
+
+-- The closed form is the one for a correlation that may depend on the number of defaults, at ρ for every number of them: p_(k+1), m_k and P(j,k).
+module _ (p ρ : ℕ) where
+  constant-den : (k : ℕ) → conditionalDen (constantly ρ) k ≡ whole ^ suc k
+  unfolding conditionalDen constantly
+  constant-den k = rw (product-const k whole, pow-succ' whole k)
+
+  conditional-constant : (k : ℕ) → conditionalBy (constantly ρ) p k ≡ conditional p ρ k
+  unfolding conditionalBy conditional constantly complement
+  conditional-constant zero = refl
+  conditional-constant (suc k) = rw (conditional-constant k, constant-den k) refl
+
+  joint-constant : (k : ℕ) → jointBy (constantly ρ) p k ≡ joint p ρ k
+  unfolding jointBy joint product
+  joint-constant zero = refl
+  joint-constant (suc k) = rw (joint-constant k, conditional-constant k) refl
+
+  pub probability-constant : (j k : ℕ) → probabilityBy (constantly ρ) p j k ≡ probability p ρ j k
+  unfolding probabilityBy closedFormBy jointDen productBetween probability closedForm scaledJoint over
+  probability-constant j k =
+      fraction-fields
+      (ap raise (alternating-cong (k - j) (λ i l.
+      ap₂ _*_ (joint-constant (j + i)) (product-cong (k - (j + i)) (λ t m. constant-den (j + i + t)) ∙ powers-between (j + i) k))))
+      (product-cong k (λ t l. constant-den t) ∙ powers-product k)
 
 module _ (p ρ : ℕ) (p≤1 : p ≤ whole) (ρ≤1 : ρ ≤ whole) where
   -- The closed form of P(j,k) is entry j of row k, made by the passes.
   pub closed-form : {j k : ℕ} → j ≤ k → closedForm p ρ j k ≡ pos (rowEntry p ρ k j)
   unfolding closedForm scaledJoint
-  closed-form {j} {k} j≤k =
-      let entry : ℕ → ℕ → ℕ = λ n i. rowEntry p ρ n i * whole ^ (triangle k - triangle n) in
-      simp (row-last p ρ, add-sub-of-le j≤k, sub-self, pow-zero, mul-one)
-      at (alternating-of-splits k entry (scaled-rows-split p ρ p≤1 ρ≤1 k) (k - j) j (omega arith))
+  closed-form j≤k = simp (row-last p ρ, powers-between) at (rows-alternating (λ i. whole ^ suc i) (rowEntry p ρ) (rows-split p ρ p≤1 ρ≤1) j≤k)
 
   -- P(j,k) is entry j of row k, made by the passes.
   pub probability-row : {j k : ℕ} → j ≤ k → probability p ρ j k ≡ over (rowEntry p ρ k j) (triangle k)

@@ -2,14 +2,22 @@
 -- Assumes nothing.
 use Prim.Native.Nat.{ℕ, zero, suc, _+_, _*_, _^_, _≤_, _<_}
 use mathlib.Core.Path.{_≡_, ap}
-use native.Mathlib.Nat.{add-sub-of-le, sub-le, pow-succ', mul-pos, mul-le-mul, mul-le-mul-right, mul-lt-mul-of-pos-right, lt-of-not-le}
+use native.Mathlib.Nat.{add-sub-of-le, sub-le, one-mul, pow-zero, pow-suc, pow-succ', mul-pos, mul-le-mul, mul-le-mul-right, mul-lt-mul-of-pos-right, lt-of-not-le}
 use native.Mathlib.Nat.{eq-of-mul-eq-mul-right, le-of-mul-le-mul-right}
 use native.Mathlib.Omega.{arith}
+use native.Mathlib.Bridge.{le-prop}
 use lib.Dec.{lit≤}
 use lib.Pow.{pow-add}
 use Rattle.model.specs.Fraction.{Fraction, Same, AtMost, Less, plus, times, divided, whole, complement, over}
 
 -- ---- equality and order
+
+-- Of the same numerator and denominator.
+pub fraction-fields : {x y : Fraction} → x .num ≡ y .num → x .den ≡ y .den → x ≡ y
+fraction-fields {x} {y} same alike =
+    let made : ℕ → (d : ℕ) → 0 < d → Fraction = λ n d above. record { num = n; den = d; positive = above } in
+    let by : (above : 0 < y .den) → x ≡ made (y .num) (y .den) above = rw (← same, ← alike) (λ above. ap (made (x .num) (x .den)) (le-prop (x .positive) above)) in
+    by (y .positive)
 
 pub same-refl : {x : Fraction} → Same x x
 same-refl = omega arith
@@ -115,6 +123,9 @@ complement-law l = add-sub-of-le l
 pub complement-at-most : (x : ℕ) → complement x ≤ whole
 unfolding complement
 complement-at-most x = sub-le whole x
+
+pub whole-once : whole ^ 1 ≡ whole
+whole-once = rw (pow-suc whole 0, pow-zero whole) (one-mul whole)
 
 -- 10,000 is below 2^14.
 pub whole-digits : (t : ℕ) → whole ^ t ≤ 2 ^ (14 * t)

@@ -1,14 +1,14 @@
--- Laws of finite sums, differences, integers raised to zero, binomial coefficients and triangle numbers.
+-- Laws of finite sums and products, differences, integers raised to zero, binomial coefficients and triangle numbers.
 -- Assumes nothing.
 use Prim.Native.Nat.{ℕ, zero, suc, _+_, _*_, _-_, _^_, _≤_, _<_, min, suc-le-suc}
 use mathlib.Core.Path.{_≡_, refl, sym, ap, ap₂, _∙_}
-use native.Mathlib.Nat.{suc-sub-suc, sub-eq-zero-of-le, le-step, le-of-suc-le-suc, le-of-eq, le-of-lt, le-antisymm, lt-suc-self, add-zero, zero-add, add-suc, suc-add, add-sub-of-le, add-mul, mul-le-mul, pow-succ'}
+use native.Mathlib.Nat.{suc-sub-suc, sub-eq-zero-of-le, le-step, le-of-suc-le-suc, le-of-eq, le-of-lt, le-antisymm, lt-suc-self, add-zero, zero-add, add-suc, suc-add, add-sub-of-le, add-mul, mul-le-mul, mul-pos, le-refl, pow-zero, pow-suc, pow-succ'}
 use native.Mathlib.Decide.{decLe}
 use native.Mathlib.Omega.{arith}
 use borrow.Author.Tests.{lt-ltb, le-ltb}
 use lib.Pow.{pow-pos}
 use lib.IntN.{ℤ, pos, negsuc, negℤ, natAbs, _+ℤ_, _-ℤ_, _*ℤ_, +ℤ-assoc, +ℤ-comm, negℤ-+ℤ}
-use Rattle.model.specs.Number.{sum, sumBetween, integerSum, choose, factorial, triangle, binomialSum, cut, raise}
+use Rattle.model.specs.Number.{sum, sumBetween, product, productBetween, integerSum, signed, alternatingSum, choose, factorial, triangle, binomialSum, cut, raise}
 
 -- ---- sums
 
@@ -31,6 +31,12 @@ sum-times : (n c : ℕ) (f g : ℕ → ℕ) → ((i : ℕ) → i < n → f i ≡
 unfolding sum
 sum-times zero c f g e = omega arith
 sum-times (suc n) c f g e = omega (arith, sum-times n c f g (λ i l. e i (le-step l)), e n (lt-suc-self n))
+
+-- Of terms that are as others are.
+pub sum-as : (n b c : ℕ) (f g : ℕ → ℕ) → ((i : ℕ) → i < n → f i * b ≡ g i * c) → sum n f * b ≡ sum n g * c
+unfolding sum
+sum-as zero b c f g h = omega arith
+sum-as (suc n) b c f g h = omega (arith, sum-as n b c f g (λ i l. h i (le-step l)), h n (lt-suc-self n))
 
 pub sum-const : (n x : ℕ) → sum n (λ i. x) ≡ n * x
 unfolding sum
@@ -78,6 +84,58 @@ between-total (suc n) f =
       between-total n f,
     )
 
+-- ---- products
+
+pub product-next : (n : ℕ) (f : ℕ → ℕ) → product (suc n) f ≡ product n f * f n
+unfolding product
+product-next n f = refl
+
+pub product-cong : (n : ℕ) {f g : ℕ → ℕ} → ((i : ℕ) → i < n → f i ≡ g i) → product n f ≡ product n g
+unfolding product
+product-cong zero h = refl
+product-cong (suc n) h = ap₂ _*_ (product-cong n (λ i l. h i (le-step l))) (h n (lt-suc-self n))
+
+pub product-mono : (n : ℕ) {f g : ℕ → ℕ} → ((i : ℕ) → i < n → f i ≤ g i) → product n f ≤ product n g
+unfolding product
+product-mono zero h = omega arith
+product-mono (suc n) h = mul-le-mul (product-mono n (λ i l. h i (le-step l))) (h n (lt-suc-self n))
+
+pub product-positive : (n : ℕ) {f : ℕ → ℕ} → ((i : ℕ) → 0 < f i) → 0 < product n f
+unfolding product
+product-positive zero h = omega arith
+product-positive (suc n) h = mul-pos (product-positive n h) (h n)
+
+-- Equal factors.
+pub product-const : (n x : ℕ) → product n (λ i. x) ≡ x ^ n
+unfolding product
+product-const zero x = rw (pow-zero x)
+product-const (suc n) x = rw (pow-suc x n, product-const n x)
+
+-- The first factor apart.
+product-first : (n : ℕ) (f : ℕ → ℕ) → product (suc n) f ≡ f 0 * product n (λ i. f (suc i))
+unfolding product
+product-first zero f = omega arith
+product-first (suc n) f = omega (arith, ap (λ z. z * f (suc n)) (product-first n f))
+
+-- The first factor of a product from k on apart; it is one if k is past the last.
+pub product-from : (n : ℕ) (f : ℕ → ℕ) {k : ℕ} → k < n → productBetween k n f ≡ f k * productBetween (suc k) n f
+unfolding productBetween
+product-from n f {k} l =
+    let more : n - k ≡ suc (n - suc k) = omega arith in
+    simp (more, suc-add) (simp (add-zero, add-suc) at (product-first (n - suc k) (λ i. f (k + i))))
+
+pub product-none : (n : ℕ) (f : ℕ → ℕ) {k : ℕ} → n ≤ k → productBetween k n f ≡ 1
+unfolding productBetween product
+product-none n f l = rw (sub-eq-zero-of-le l)
+
+-- The factors before k, and those from k on.
+pub product-parts : (f : ℕ → ℕ) (k d : ℕ) → product k f * productBetween k (k + d) f ≡ product (k + d) f
+product-parts f k zero = rw (add-zero k, product-none k f (le-refl k)) (omega arith)
+product-parts f k (suc d) =
+    let last : k + suc d ≡ suc k + d = omega arith in
+    rw (last, product-from (suc k + d) f {k = k} (omega arith))
+    (omega (arith, ap (λ z. z * productBetween (suc k) (suc k + d) f) (product-next k f), product-parts f (suc k) d))
+
 -- ---- differences, as integers
 
 -- How large the difference of two natural numbers is.
@@ -100,6 +158,11 @@ differences-total (suc n) h f g e =
     ap₂ _+ℤ_ (differences-total n h f g (λ i l. e i (le-step l))) (e n (lt-suc-self n))
     ∙ integer-interchange (pos (sum n f)) (negℤ (pos (sum n g))) (pos (f n)) (negℤ (pos (g n)))
     ∙ ap (λ z. pos (sum n f + f n) +ℤ z) (sym (negℤ-+ℤ (pos (sum n g)) (pos (g n))))
+
+integer-cong : (n : ℕ) {f g : ℕ → ℤ} → ((i : ℕ) → i < n → f i ≡ g i) → integerSum n f ≡ integerSum n g
+unfolding integerSum
+integer-cong zero h = refl
+integer-cong (suc n) h = ap₂ _+ℤ_ (integer-cong n (λ i l. h i (le-step l))) (h n (lt-suc-self n))
 
 -- ---- integers raised to zero
 
@@ -198,6 +261,12 @@ binomial-mean n f =
       sum-times (suc n) (suc n) (λ i. suc i * (choose (suc n) (suc i) * f (suc i))) (λ i. choose n i * f (suc i))
           (λ i l. omega (arith, ap (λ z. z * f (suc i)) (choose-absorb n i))),
     )
+
+-- ---- alternating sums
+
+pub alternating-cong : (d : ℕ) {f g : ℕ → ℕ} → ((i : ℕ) → i ≤ d → f i ≡ g i) → alternatingSum d f ≡ alternatingSum d g
+unfolding alternatingSum
+alternating-cong d h = integer-cong (suc d) (λ i l. ap (λ z. signed i (choose d i * z)) (h i (le-of-suc-le-suc l)))
 
 -- ---- triangle numbers
 

@@ -1,6 +1,6 @@
 -- The contract of each call implies what is demanded of it.
 -- Assumes nothing.
-use Prim.Native.Nat.{ℕ, zero, suc, _+_, _*_, _/_, _≤_}
+use Prim.Native.Nat.{ℕ, zero, suc, _+_, _-_, _*_, _/_, _≤_, _<_}
 use mathlib.Core.Path.{_≡_, refl, sym, ap, _∙_}
 use mathlib.Core.Logic.{_⊎_, inl, inr}
 use mathlib.Core.List.{List}
@@ -11,7 +11,7 @@ use Rattle.model.specs.Number.{triangle}
 use Rattle.model.specs.Number.Laws.{triangle-closed}
 use Rattle.model.specs.Fraction.{Fraction, Same, AtMost}
 use Rattle.model.specs.Fraction.Laws.{same-refl}
-use Rattle.model.specs.Chances.{Chances, chance}
+use Rattle.model.specs.Chances.{Chances, chance, expectedLoss}
 use Rattle.model.specs.CorrelatedBinomial.{defaults}
 use Rattle.kept.specs.declared.Kept.{Kept}
 use Rattle.kept.specs.declared.Side.{Side}
@@ -24,9 +24,8 @@ use Rattle.steps.specs.Column.Laws.{in-units-at-most, in-units-next, within-wea
 use Rattle.steps.specs.Enclosure.{Enclosed}
 use Rattle.steps.specs.Loss.{raisedToShown, Says}
 use Rattle.steps.specs.Loss.Laws.{raised-greater, least-shown-value}
-use Rattle.steps.specs.CorrelatedBinomial.{keptDefaults}
 use Rattle.steps.specs.Inputs.{largestPool, distanceFor, tenthsFor}
-use Rattle.steps.specs.Promises.{HoldsColumn}
+use Rattle.steps.specs.Promises.{HoldsSteps, HoldsColumn}
 use Rattle.steps.specs.Chances.{keptTail, keptLoss}
 use Rattle.chances.specs.Loss.{lossOf}
 use Rattle.working.specs.Slices.{overwritten, entriesAfter, numberAt}
@@ -44,8 +43,8 @@ use Rattle.pool.specs.declared.Answer.the-variants.{Refused, Answered}
 use Rattle.store.specs.Stores.{Store, lengths, sideOf, place, storeAfter}
 use Rattle.store.specs.Calls.{LeavesStore, Fills, fillRefusal, HandsRow, rowRefusal}
 use Rattle.pool.specs.Answers.{replyOf, refusalOf}
-use Rattle.pool.specs.Calls.{columnRefusal, Prints, lossRefusal, Wide, PoolHoldsLoss, AnswersLoss, Replies}
-use Rattle.pool.specs.Demands.{BoundDemands, oneHalf, PrintedDemands, oneAndAHalf, Demand3Column, Slices, significandsOn, numberOn, from, TableDemands, StoreDemands, edge, LossDemands, AnswerDemands, exactLoss, refusalIn}
+use Rattle.pool.specs.Calls.{columnRefusal, Prints, lossRefusal, AnswersLoss, Replies}
+use Rattle.pool.specs.Demands.{BoundDemands, StepsDemands, oneHalf, PrintedDemands, oneAndAHalf, Demand3Column, Slices, significandsOn, numberOn, from, TableDemands, StoreDemands, edge, LossDemands, AnswerDemands, exactLoss, refusalIn}
 use Rattle.pool.specs.Demands.{FillDemands, RowDemands, EntriesDemands, ColumnDemandsBy, ColumnDemands, TrancheDemandsBy, TrancheDemands}
 
 -- The four slices of a store.
@@ -59,10 +58,18 @@ slices s = record {
 
 -- ---- the store
 
-bounds-meet : {parts : ℕ} {low high : Kept} {v : Fraction} → Enclosed parts low high v → BoundDemands parts low high v
+pub bounds-meet : {parts : ℕ} {low high : Kept} {v : Fraction} → Enclosed parts low high v → BoundDemands parts low high v
 bounds-meet enclosed = record {
   two = record { from-below = enclosed .from-below; from-above = enclosed .from-above };
   three = record { apart = enclosed .distance; of-zero = enclosed .of-zero };
+}
+
+-- What steps 4 to 6 make of any row.
+pub steps-meet : {parts : ℕ} {r : Chances} {c : Side → ℕ → Kept} {Made : Side → Kept → Type 0} → HoldsSteps parts r c Made → StepsDemands parts (r .assets) r c Made
+steps-meet steps = record {
+  chances = λ j l. bounds-meet (steps .enclosed .chances l);
+  tails = λ k. bounds-meet (steps .enclosed .tails k);
+  exponents = λ side number. let ranged = steps .ranged side number in (ranged .least, ranged .most);
 }
 
 -- What stands behind rows 0 to n in a slice that was filled.
@@ -92,15 +99,11 @@ module _ {parts : ℕ} {pool : Pool} {before after : Store} {refusal : ℕ} (lea
 
     table-meets : TableDemands pool parts (slices after)
     unfolding numberAt place defaults
-    table-meets =
-        let steps = leaves .steps-hold none in
-        record {
-          made = made-on;
-          entries = λ j k l m. bounds-meet (leaves .holds none .enclosed j k l m);
-          chances = λ j l. bounds-meet (steps .enclosed .chances l);
-          tails = λ k. bounds-meet (steps .enclosed .tails k);
-          exponents = λ side number. let ranged = steps .ranged side number in (ranged .least, ranged .most);
-        }
+    table-meets = record {
+      made = made-on;
+      entries = λ j k l m. bounds-meet (leaves .holds none .enclosed j k l m);
+      steps = steps-meet (leaves .steps-hold none);
+    }
 
     later-meets : let places = (pool .assets + 1) * (pool .assets + 2) / 2 in from places (slices after) ≡ from places (slices before)
     unfolding storeAfter filledSide
@@ -158,7 +161,7 @@ printed-meet n low = record {
 }
 
 -- The column of any row whose offset is 1.5 units at most.
-rows-meet : {off : Fraction} {r : Chances} (low : ℕ → Kept) {units : List ℕ} → AtMost off oneAndAHalf → HoldsColumn off r low units
+pub rows-meet : {off : Fraction} {r : Chances} (low : ℕ → Kept) {units : List ℕ} → AtMost off oneAndAHalf → HoldsColumn off r low units
     → Demand3Column (r .assets) (keptTail Low (r .assets) low) (printedTail (r .assets) low) (chance r) units
 unfolding unitsOfCertainty exactUnits
 rows-meet {r} low most holds = record {
@@ -175,8 +178,8 @@ module _ {pool : Pool} {before after : Store} {units units′ : List ℕ} {refus
       → refuses pool before units ≡ firstGround grounds → ColumnDemandsBy pool parts grounds (slices before) (slices after) units units′ refusal
   unfolding tenths tenthsFor oneAndAHalf defaults
   column-meets-by prints is = record {
-    leaves = entries-meet (prints .leaves) _ _ (prints .refusal-is ∙ is) (prints .units-are);
-    column = λ none. rows-meet _ (record { cross = lit≤ tt }) (prints .holds-column none);
+    leaves = entries-meet (prints .leaves) _ _ (prints .refusal-is ∙ is) (prints .prints .units-are);
+    column = λ none. rows-meet _ (record { cross = lit≤ tt }) (prints .prints .holds-column none);
   }
 
   pub column-meets : Prints columnRefusal distanceFor pool before after units units′ refusal → ColumnDemands pool (slices before) (slices after) units units′ refusal
@@ -207,28 +210,22 @@ loss-meets parts low high v (Faint number) says = record {
 loss-meets parts low high v (Shown bounds) says =
     record { low-not-below = says .low-not-below; lower-is = says .lower-is .exact; upper-is = says .upper-is .exact }
 
-module _ (pool : Pool) (tranche : Tranche) (wide : Wide pool tranche) where
-  -- The bound of step 6 on a side, and the exact loss.
-  abbrev boundOn : Side → Kept
-  boundOn side =
-      keptLoss side (pool .assets) (keptDefaults side (pool .assets) (pool .probability) (pool .correlation)) (pool .recovery) (tranche .lower) (tranche .upper) wide
-
-  abbrev lost : Fraction
-  lost = exactLoss (pool .assets) (pool .probability) (pool .correlation) (pool .recovery) (tranche .lower) (tranche .upper) wide
-
-  answer-meets : (parts : ℕ) (answer : Answer) → AnswersLoss (λ _. parts) pool tranche wide (replyOf answer)
-      → AnswerDemands parts (boundOn Low) (boundOn High) lost answer
-  unfolding replyOf PoolHoldsLoss defaults exactLoss
-  answer-meets parts (Refused number) answers = let never : _≡_ {A = ℕ} 0 1 = cc (answers .reply-is) in absurd (omega arith)
-  answer-meets parts (Answered loss) answers =
-      let same : answers .loss ≡ lossOf loss = cc (answers .reply-is) in
-      let holds = answers .holds in
-      record {
-        bounds = bounds-meet (holds .enclosed);
-        loss = loss;
-        answer-is = refl;
-        says = loss-meets parts (boundOn Low) (boundOn High) lost loss (rw same at (holds .says));
-      }
+-- A loss of any row that is answered.
+pub answer-meets : {parts : ℕ} {r : Chances} {c : Side → ℕ → Kept} {R A B : ℕ} (wide : 0 < (B - A) * r .assets) (answer : Answer)
+    → AnswersLoss parts r c R A B wide (replyOf answer)
+    → AnswerDemands parts (keptLoss Low (r .assets) (c Low) R A B wide) (keptLoss High (r .assets) (c High) R A B wide) (expectedLoss r R A B wide) answer
+unfolding replyOf
+answer-meets wide (Refused number) answers = let never : _≡_ {A = ℕ} 0 1 = cc (answers .reply-is) in absurd (omega arith)
+answer-meets {parts} {r} {c} {R} {A} {B} wide (Answered loss) answers =
+    let same : answers .loss ≡ lossOf loss = cc (answers .reply-is) in
+    let holds = answers .holds in
+    record {
+      bounds = bounds-meet (holds .enclosed);
+      loss = loss;
+      answer-is = refl;
+      says = loss-meets parts (keptLoss Low (r .assets) (c Low) R A B wide) (keptLoss High (r .assets) (c High) R A B wide) (expectedLoss r R A B wide) loss
+          (rw same at (holds .says));
+    }
 
 pub number-is : (answer : Answer) → refusalIn answer ≡ refusalOf (replyOf answer)
 unfolding replyOf refusalOf
@@ -240,14 +237,15 @@ module _ {pool : Pool} {tranche : Tranche} {before after : Store} (answer : Answ
   pub tranche-meets-by : {refuses : Pool → Tranche → Store → ℕ} {parts : ℕ} {grounds : List Ground}
       → Replies refuses (λ _. parts) pool tranche before after (replyOf answer) → refuses pool tranche before ≡ firstGround grounds
       → TrancheDemandsBy pool tranche parts grounds (slices before) (slices after) answer
-  tranche-meets-by {parts} replies first =
-      let is = number-is answer ∙ replies .refusal-is in
+  unfolding defaults exactLoss
+  tranche-meets-by replies first =
+      let is = number-is answer ∙ replies .replies .refusal-is in
       let leaves = rw (← is) at (replies .leaves) in
       record {
         one = record { number = is ∙ first; untouched = λ some. ap slices (store-kept leaves some) };
         store = store-meets leaves;
-        wide = λ none. replies .wide (sym is ∙ none);
-        loss = λ none wide. answer-meets pool tranche wide parts answer (replies .holds-loss (sym is ∙ none) wide);
+        wide = λ none. replies .replies .wide (sym is ∙ none);
+        loss = λ none wide. answer-meets wide answer (replies .replies .holds-loss (sym is ∙ none) wide);
       }
 
   pub tranche-meets : Replies lossRefusal distanceFor pool tranche before after (replyOf answer)

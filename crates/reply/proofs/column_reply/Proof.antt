@@ -43,14 +43,14 @@ write-table-requires c κs =
     let printed = branch .before .before .before .before .before .before in
     let most = pool-accepted _ _ _ _ (pool-refusal printed) (branch .if1 .left) .range .assets in (
       omega (arith, most),
-      (omega (arith, most, printed .column .kept .1 .1 .1 .1 .1 .0), (printed .column .ensures .holds-column (branch .if1 .left) .total, omega (arith, most))),
+      (omega (arith, most, printed .column .kept .1 .1 .1 .1 .1 .0), (printed .column .ensures .prints .holds-column (branch .if1 .left) .total, omega (arith, most))),
     )
 
 returns-2 : tie.Need-returns-2
 returns-2 c =
     let branch = c .before .before .before .before in
     let printed = branch .before .before .before .before .before .before in
-    carried (c .before .write-table .ensures) (table-answer (accepted branch) (printed .column .ensures .holds-column (branch .if1 .left)))
+    carried (c .before .write-table .ensures) (table-answer (accepted branch) (printed .column .ensures .prints .holds-column (branch .if1 .left)))
 
 pub column-reply-spec : {M : Type 1} → statement M
 column-reply-spec =

@@ -69,7 +69,7 @@ module _ {pool : Pool} {tranche : Tranche} {before : Store} {r : ℕ} (is : r �
       let within = screen-within largestPool screenPool (pool .assets) is none in
       let same = screens-within within (loss-screens pool tranche before) in
       record {
-        own = replies-apart same (λ accepts. let accepted = loss-accepted _ _ _ _ _ _ _ _ refl accepts in (accepted .fill .pool, accepted .tranche, screen-budgets within)) library;
-        screens = screens-at (library .refusal-is ∙ sym same) (loss-screens pool tranche before);
+        own = replies-apart same (λ accepts. let accepted = loss-accepted _ _ _ _ _ _ _ _ refl accepts in (accepted .fill .pool .range, accepted .tranche, screen-budgets within)) library;
+        screens = screens-at (library .replies .refusal-is ∙ sym same) (loss-screens pool tranche before);
         library = λ _. library;
       }

@@ -22,7 +22,7 @@ use Rattle.kept.specs.declared.Side.{Side}
 use Rattle.kept.specs.declared.Side.the-variants.{Low, High}
 use Rattle.kept.specs.Accuracy.{precision, BudgetFor}
 use Rattle.kept.specs.Accuracy.Laws.{budget-for-weaken}
-use Rattle.steps.specs.Budgets.{chanceBudget, tailBudget, lossBudget, WithinBudget}
+use Rattle.steps.specs.Budgets.{chanceBudget, tailBudget, lossBudget, WithinBudget, WithinPlaces}
 use Rattle.steps.specs.Counts.{countBudget}
 use Rattle.steps.specs.CorrelatedBinomial.Budgets.{rowBudget, defaultsBudget, poolBudget, BudgetsFor, FewAssets}
 use Rattle.steps.specs.CorrelatedBinomial.Rows.{keptRow}
@@ -31,13 +31,12 @@ use Rattle.steps.specs.Chances.{keptLoss}
 use Rattle.steps.specs.Enclosure.{Enclosed}
 use Rattle.steps.specs.Enclosure.Laws.{bound-enclosed}
 use Rattle.steps.specs.Column.{unitsOfCertainty, half, printedTail, printedRow, tenths, PrintsTails, PrintsColumn}
-use Rattle.steps.specs.Column.Laws.{printed-column, column-weaken}
 use Rattle.steps.specs.Shifts.{tailShift}
 use Rattle.steps.specs.Exponents.{Ranged}
 use Rattle.steps.specs.CorrelatedBinomial.Exponents.Laws.{rows-ranged}
 use Rattle.steps.specs.Loss.{LossAnswer, lossAnswer}
 use Rattle.steps.specs.Promises.{HoldsSteps, HoldsShifts, HoldsLoss}
-use Rattle.steps.specs.Promises.Laws.{steps-ranged, row-tails, row-enclosed, loss-holds, shifts-hold}
+use Rattle.steps.specs.Promises.Laws.{steps-ranged, row-tails, tails-column, row-enclosed, loss-holds, shifts-hold}
 use Rattle.steps.specs.Inputs.{largestPool, distanceFor, screenPool, screenDistance, tenthsFor, shiftTenths, workingAssets, InRange}
 use Rattle.steps.specs.Inputs.Laws.{range-uncorrelated, pool-works}
 use Rattle.steps.specs.CorrelatedBinomial.{keptDefaults}
@@ -46,25 +45,30 @@ use Rattle.steps.specs.CorrelatedBinomial.Exponents.{PoolNumber, of-rows
 -- ---- with the number of assets left open
 
 module _ {most n p ρ : ℕ} (range : InRange most n p ρ) (few : FewAssets n) where
-  -- The rows of the model are within their budgets.
-  pub pool-within : WithinBudget (rowBudget n) (14 * triangle n) (defaults n p ρ) (λ j. probability p ρ j n) (λ side. keptRow side p ρ n)
-  unfolding defaults chance share probability times integer over certainty lossBudget chanceBudget countBudget rowBudget triangle
+  -- The rows of the model are within their budgets, and their denominators are few places long.
+  pool-within : WithinBudget (rowBudget n) (defaults n p ρ) (λ j. probability p ρ j n) (λ side. keptRow side p ρ n)
+  unfolding defaults chance share probability times integer over lossBudget chanceBudget countBudget rowBudget triangle
   pool-within = record {
     complete = defaults-complete p ρ (range .probability) (range .correlation) n;
     entries = λ side j l. entry-bound side p ρ (range .probability) (range .correlation) l;
-    at-most-one = λ j l. omega (arith, probability-at-most-one p ρ (range .probability) (range .correlation) l .cross);
     counted = λ j l. omega arith;
+    parts = omega (arith, few .parts);
+    assets = few .assets;
+  }
+
+  pool-placed : WithinPlaces (14 * triangle n) (defaults n p ρ) (λ j. probability p ρ j n)
+  unfolding defaults probability over certainty triangle
+  pool-placed = record {
+    at-most-one = λ j l. omega (arith, probability-at-most-one p ρ (range .probability) (range .correlation) l .cross);
     denominators = λ j l. whole-digits (triangle n);
     denominator = whole-digits (triangle n);
-    parts = omega (arith, few .parts);
     places = omega (arith, few .places);
-    assets = few .assets;
   }
 
   pub pool-ranged : (side : Side) {x : Kept} → PoolNumber side n p ρ x → Ranged x
   unfolding defaults
   pool-ranged side (of-rows number) = rows-ranged side few (range .probability) (range .correlation) number
-  pool-ranged side (of-steps number) = steps-ranged pool-within side number
+  pool-ranged side (of-steps number) = steps-ranged pool-within pool-placed side number
 
 -- ---- for the pools of the calls
 
@@ -92,8 +96,11 @@ module _ {n p ρ : ℕ} where
 
   module _ (range : InRange largestPool n p ρ) where
     -- What the promises of its row rest on.
-    pub within : WithinBudget (rowBudget n) (14 * triangle n) (defaults n p ρ) (λ j. probability p ρ j n) (λ side. keptRow side p ρ n)
+    pub within : WithinBudget (rowBudget n) (defaults n p ρ) (λ j. probability p ρ j n) (λ side. keptRow side p ρ n)
     within = pool-within range (few-assets (le-trans (range .assets) pool-works))
+
+    pub placed : WithinPlaces (14 * triangle n) (defaults n p ρ) (λ j. probability p ρ j n)
+    placed = pool-placed range (few-assets (le-trans (range .assets) pool-works))
 
     module _ {g : ℕ → ℕ} (apart : BudgetsFor g n) where
       -- Both bounds of entry j of row k, with P(j,k) by its closed form.
@@ -124,8 +131,8 @@ module _ {n p ρ : ℕ} where
 
     -- The printed rows add to 100,000, none is below zero, and each is less than 1.5 units from the exact chance.
     pub column : PrintsColumn (tenths (tenthsFor n)) (defaults n p ρ) (printedTail n (keptDefaults Low n p ρ)) (printedRow n (keptDefaults Low n p ρ))
-    unfolding defaults plus half tenths tenthsFor
-    column = column-weaken (record { cross = lit≤ tt }) (printed-column (keptDefaults Low n p ρ) printed)
+    unfolding defaults
+    column = tails-column (keptDefaults Low n p ρ) printed
 
 -- The shifts of the printed tails against those of the same pool without correlation. The exact tails at 1 to n add to n × p at either correlation.
 pub shifts : {n p ρ : ℕ} → InRange largestPool n p ρ → 0 < n → {shifts : List ℤ}

@@ -1,36 +1,41 @@
 -- The promises of a row of chances in general.
 -- Assumes nothing.
 use Prim.Native.Nat.{ℕ, suc, _+_, _-_, _*_, _^_, _≤_, _<_}
-use mathlib.Core.Path.{_≡_, _∙_}
+use mathlib.Core.Path.{_≡_, sym, subst, _∙_}
 use mathlib.Core.List.{List}
 use native.Mathlib.Omega.{arith}
 use native.Mathlib.Nat.{le-refl, mul-le-mul-right}
+use lib.Dec.{lit≤}
 use lib.ListN.{getD}
 use lib.IntN.{ℤ, pos, +ℤ-invr}
+use Rattle.model.specs.Number.{choose}
 use Rattle.model.specs.Number.Laws.{sum-cong}
-use Rattle.model.specs.Fraction.{Fraction, Same, AtMost, plus, whole}
-use Rattle.model.specs.Fraction.Laws.{at-most-refl, less-at-most-trans, times-mono}
-use Rattle.model.specs.Chances.{Chances, tailsTotal}
+use Rattle.model.specs.Fraction.{Fraction, Same, AtMost, integer, plus, times, whole}
+use Rattle.model.specs.Fraction.Laws.{same-refl, same-sym, same-trans, times-same, at-most-refl, less-at-most-trans, times-mono}
+use Rattle.model.specs.Chances.{Chances, SameChances, chance, tailsTotal}
+use Rattle.model.specs.Chances.Laws.{complete-same}
 use Rattle.kept.specs.declared.Kept.{Kept}
 use Rattle.kept.specs.declared.Side.{Side}
 use Rattle.kept.specs.declared.Side.the-variants.{Low, High}
 use Rattle.kept.specs.Accuracy.{precision, BudgetFor}
 use Rattle.kept.specs.Accuracy.Laws.{bound-same, budget-for-weaken}
-use Rattle.steps.specs.Budgets.{chanceBudget, tailBudget, lossBudget, Bounded, WithinBudget}
+use Rattle.steps.specs.Budgets.{chanceBudget, tailBudget, lossBudget, Bounded, WithinBudget, WithinPlaces}
 use Rattle.steps.specs.Chances.{keptChances, keptLoss}
 use Rattle.steps.specs.Chances.Laws.{chance-bound, chance-enclosed, tail-enclosed, loss-enclosed}
-use Rattle.steps.specs.Column.{unitsOfCertainty, half, printedTail, printedRow, PrintsTails, PrintsColumn}
-use Rattle.steps.specs.Column.Laws.{within-weaken, printed-tails}
+use Rattle.steps.specs.Column.{unitsOfCertainty, half, printedTail, printedRow, tenths, PrintsTails, PrintsColumn}
+use Rattle.steps.specs.Column.Laws.{within-weaken, printed-tails, printed-column, column-weaken}
+use Rattle.steps.specs.Inputs.{tenthsFor}
 use Rattle.steps.specs.Shifts.{tailShift}
 use Rattle.steps.specs.Shifts.Laws.{tails-near, tails-between, tails-total-near}
 use Rattle.steps.specs.Exponents.{Ranged}
+use Rattle.steps.specs.Exponents.Laws.{bound-ranged, unscaled}
 use Rattle.steps.specs.Loss.{LossAnswer, lossAnswer}
 use Rattle.steps.specs.Loss.Laws.{tranche-says}
 use Rattle.steps.specs.Numbers.{StepNumber, of-chances, of-tails, of-losses}
 use Rattle.steps.specs.Numbers.Laws.{chances-ranged, tails-ranged, losses-ranged}
 use Rattle.steps.specs.Promises.{RowEnclosed, HoldsColumn, HoldsShifts, HoldsLoss}
 
-module _ {b m : ℕ} {r : Chances} {v : ℕ → Fraction} {entry : Side → ℕ → Kept} (within : WithinBudget b m r v entry) where
+module _ {b : ℕ} {r : Chances} {v : ℕ → Fraction} {entry : Side → ℕ → Kept} (within : WithinBudget b r v entry) where
   abbrev kept : Side → ℕ → Kept
   kept side = keptChances side (r .assets) (entry side)
 
@@ -44,14 +49,21 @@ module _ {b m : ℕ} {r : Chances} {v : ℕ → Fraction} {entry : Side → ℕ 
   unfolding whole
   narrow A B B≤1 = let part : B - A ≤ whole = omega arith in omega (arith, mul-le-mul-right (r .assets) part, within .assets)
 
-  pub steps-ranged : (side : Side) {x : Kept} → StepNumber side (r .assets) (entry side) x → Ranged x
-  unfolding lossBudget
-  steps-ranged side (of-chances number) =
-      chances-ranged v (within .entries side) (within .at-most-one) (within .denominators) (omega (arith, within .parts, within .places, within .assets)) number
-  steps-ranged side (of-tails number) =
-      tails-ranged chances-bounded (within .complete) side m (within .denominator) (within .parts, within .places) number
-  steps-ranged side (of-losses R A B B≤1 number) =
-      losses-ranged chances-bounded (within .complete) side m (within .denominator) (within .parts, within .places) R A B (narrow A B B≤1) number
+  module _ {m : ℕ} (placed : WithinPlaces m r v) where
+    pub entries-ranged : (side : Side) (j : ℕ) → j ≤ r .assets → Ranged (entry side j)
+    unfolding lossBudget chanceBudget
+    entries-ranged side j l =
+        bound-ranged (within .entries side j l) m 0 (placed .denominators j l) (unscaled (placed .at-most-one j l))
+        (omega (arith, within .parts, placed .places))
+
+    pub steps-ranged : (side : Side) {x : Kept} → StepNumber side (r .assets) (entry side) x → Ranged x
+    unfolding lossBudget
+    steps-ranged side (of-chances number) =
+        chances-ranged v (within .entries side) (placed .at-most-one) (placed .denominators) (omega (arith, within .parts, placed .places, within .assets)) number
+    steps-ranged side (of-tails number) =
+        tails-ranged chances-bounded (within .complete) side m (placed .denominator) (within .parts, placed .places) number
+    steps-ranged side (of-losses R A B B≤1 number) =
+        losses-ranged chances-bounded (within .complete) side m (placed .denominator) (within .parts, placed .places) R A B (narrow A B B≤1) number
 
   -- Printed tails of the low side, less than `below` under the exact ones.
   pub row-tails : {below : Fraction}
@@ -75,6 +87,28 @@ module _ {b m : ℕ} {r : Chances} {v : ℕ → Fraction} {entry : Side → ℕ 
     loss-holds {R} {A} {B} B≤1 wide is =
         let enclosed = row-enclosed .losses R A B B≤1 wide in
         record { answer-is = is; enclosed = enclosed; says = rw is (tranche-says (fine .positive) r (kept Low) (kept High) (within .complete) R A B wide enclosed) }
+
+-- Rows printed from tails that are at most half a unit above the exact ones and less than 0.8 units below them.
+pub tails-column : {r : Chances} (low : ℕ → Kept) → PrintsTails half (tenths 8) r (printedTail (r .assets) low)
+    → PrintsColumn (tenths (tenthsFor (r .assets))) r (printedTail (r .assets) low) (printedRow (r .assets) low)
+unfolding plus half tenths tenthsFor
+tails-column low tails = column-weaken (record { cross = lit≤ tt }) (printed-column low tails)
+
+-- The same entries, against the same values written over other denominators.
+pub within-same : {b : ℕ} {r s : Chances} (v : ℕ → Fraction) {w : ℕ → Fraction} {entry : Side → ℕ → Kept} → SameChances r s
+    → ((j : ℕ) → j ≤ r .assets → Same (v j) (w j)) → WithinBudget b s w entry → WithinBudget b r v entry
+within-same {r} {s} v {w} same values within =
+    let as-many = sym (same .assets) in
+    let counted : (j : ℕ) → j ≤ r .assets → Same (times (integer (choose (r .assets) j)) (v j)) (chance r j) = λ j l.
+    let others = subst (λ m. Same (times (integer (choose m j)) (w j)) (chance s j)) as-many (within .counted j (rw (same .assets) at l)) in
+    same-trans (times-same same-refl (values j l)) (same-trans others (same-sym (same .chances j l))) in
+    record {
+      complete = complete-same same (within .complete);
+      entries = λ side j l. bound-same (same-sym (values j l)) (within .entries side j (rw (same .assets) at l));
+      counted = counted;
+      parts = rw as-many at (within .parts);
+      assets = rw as-many at (within .assets);
+    }
 
 -- A column that stands in a slice.
 pub column-holds : {off : Fraction} {r : Chances} {low : ℕ → Kept} {units : List ℕ}

@@ -5,7 +5,7 @@ use native.Mathlib.Omega.{arith}
 use Rattle.model.specs.Fraction.{whole}
 use Rattle.model.specs.CorrelatedBinomial.{defaults}
 use Rattle.steps.specs.Inputs.{largestPool, workingAssets}
-use Rattle.steps.specs.CorrelatedBinomial.Theorems.{within}
+use Rattle.steps.specs.CorrelatedBinomial.Theorems.{within, placed}
 use Rattle.chances.specs.Chances.Ready.{steps-ready}
 use Rattle.trial_moody_tables.proofs.chances_of.Statement.{statement}
 use Rattle.trial_moody_tables.proofs.chances_of.Tie as tie
@@ -16,5 +16,5 @@ chances-of-spec =
     tie.close
     (tie.spec
     (λ c κs. search needs)
-    (λ c κs. steps-ready (within (search needs)) (omega arith) _ (c .last-row .ensures))
+    (λ c κs. steps-ready (within (search needs)) (placed (search needs)) (omega arith) _ (c .last-row .ensures))
     (λ c. tt))

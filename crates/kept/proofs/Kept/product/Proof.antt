@@ -35,7 +35,7 @@ add-round-once c = rw (exponent (start c)) (reach-fits (lit< tt) (reach (start c
 
 round-once-requires : tie.Need-round-once-requires
 round-once-requires c κs =
-    (rw (exponent (start c), reach-back (lit< tt) (reach (start c))) (reach-weaken (lit≤ tt) (reach (start c))), λ none. absurd (omega arith))
+    (rw (exponent (start c), reach-back (lit< tt) (reach (start c))) (reach-weaken (lit≤ tt) (reach (start c))), (lit< tt, λ none. absurd (omega arith)))
 
 returns : tie.Need-returns
 unfolding roundedProduct

@@ -49,7 +49,7 @@ lowered-requires c κs =
 round-digits-requires : tie.Need-round-digits-requires
 round-digits-requires c κs =
     let reach = reach-minus (start (after-gap c) .pre .0 .reach) (reach-whole (gap-few (gap (after-gap c)))) in
-    (rw (exponent c) (reach-weaken {n = 1000000032} (lit≤ tt) reach), λ none. absurd (omega arith))
+    (rw (exponent c) (reach-weaken {n = 1000000032} (lit≤ tt) reach), (lit< tt, λ none. absurd (omega arith)))
 
 -- The first number is above zero.
 some : (c : tie.After-gap) → 0 < start c .args .x .significand * 2 ^ c .gap .result + start c .args .y .significand

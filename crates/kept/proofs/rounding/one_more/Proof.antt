@@ -14,13 +14,13 @@ use Rattle.kept.proofs.rounding.one_more.Tie as tie
 
 abbrev addition : Side → ℕ
 addition Low = 0
-addition High = 0x1ffffffff
+addition High = 0x7ffffffff
 
-addition-few : (side : Side) → addition side < 2 ^ 33
+addition-few : (side : Side) → addition side < 2 ^ 35
 addition-few Low = lit< tt
 addition-few High = lit< tt
 
-carried-over : (side : Side) (r : ℕ) → r < 2 ^ 33 → (r + addition side) / 2 ^ 33 ≡ increment side r
+carried-over : (side : Side) (r : ℕ) → r < 2 ^ 35 → (r + addition side) / 2 ^ 35 ≡ increment side r
 unfolding increment
 carried-over Low r few = omega arith
 carried-over High zero few = omega arith

@@ -54,7 +54,7 @@ returns : tie.Need-returns
 returns c =
     let begin = start (c .before) in
     let added = c .before .before .before in
-    digits-rounded (begin .args .side) (word begin) (begin .pre .1)
+    digits-rounded (begin .args .side) (word begin) (begin .pre .1 .1)
     (rw (added .one-more .ensures, added .before .shifted-up .ensures, exponent (c .before)) at (c .carried .ensures))
 
 pub round-digits-spec : {M : Type 1} → statement M

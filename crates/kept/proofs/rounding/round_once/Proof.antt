@@ -16,13 +16,13 @@ digits c = rw (toZ-ofZ (c .before .fits .exponent)) at (c .round-digits .ensures
 
 returns : tie.Need-returns
 unfolding nought
-returns c = λ z between. rw (c .if1 .taken) (rw (eq-eqb _ 0 (c .if1 .taken)) at (rounded-once (c .before .before .pre .1) (digits (c .before)) z between))
+returns c = λ z between. rw (c .if1 .taken) (rw (eq-eqb _ 0 (c .if1 .taken)) at (rounded-once (c .before .before .pre .1 .1) (digits (c .before)) z between))
 
 returns-2 : tie.Need-returns-2
 returns-2 c = λ z between.
     let made = c .before .before in
     let fits : SFits w32 (made .round-digits .result .exponent) = search needs in
-    rw (toZ-ofZ fits) (rw (ne-eqb _ 0 (c .before .if1 .left)) at (rounded-once (made .before .pre .1) (digits made) z between))
+    rw (toZ-ofZ fits) (rw (ne-eqb _ 0 (c .before .if1 .left)) at (rounded-once (made .before .pre .1 .1) (digits made) z between))
 
 pub round-once-spec : {M : Type 1} → statement M
 round-once-spec = tie.close (tie.spec (λ c κs. search needs) returns returns-2)

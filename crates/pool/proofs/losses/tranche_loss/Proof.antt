@@ -1,6 +1,6 @@
 -- `tranche_loss` meets its contract.
 -- Assumes nothing.
-use mathlib.Core.Path.{_≡_, refl, sym, _∙_}
+use mathlib.Core.Path.{_≡_, sym, _∙_}
 use borrow.Author.Needs.{needs}
 use native.Mathlib.Omega.{arith}
 use Rattle.steps.specs.Inputs.{largestPool}
@@ -8,12 +8,13 @@ use Rattle.grounds.specs.Grounds.{fourLengths, LossAccepted}
 use Rattle.grounds.specs.Grounds.Laws.{loss-accepted}
 use Rattle.store.specs.Stores.{Store, store, lengths}
 use Rattle.store.specs.Calls.Laws.{store-filled}
-use Rattle.pool.specs.Answers.{replyOf, refusalOf}
+use Rattle.pool.specs.Answers.{replyOf}
+use Rattle.model.specs.CorrelatedBinomial.{defaults}
 use Rattle.steps.specs.CorrelatedBinomial.{keptDefaults}
 use Rattle.steps.specs.CorrelatedBinomial.Rows.{keptRow}
-use Rattle.steps.specs.CorrelatedBinomial.Theorems.{pool-budgets}
+use Rattle.steps.specs.CorrelatedBinomial.Theorems.{pool-budgets, answer}
 use Rattle.pool.specs.Calls.{lossRefusal}
-use Rattle.pool.specs.Calls.Laws.{tranche-is-ready, loss-wide, answers-loss, replies-untouched}
+use Rattle.pool.specs.Calls.Laws.{tranche-is-ready, reply-answered, replies-untouched}
 use Rattle.pool.proofs.losses.tranche_loss.Statement.{statement}
 use Rattle.pool.proofs.losses.tranche_loss.Tie as tie
 
@@ -49,7 +50,7 @@ tranche-loss-requires c κs =
     tranche-is-ready (given .fill .pool .range) (given .fill .pool .not-empty) (given .tranche) (rows .low-row) (rows .high-row)
 
 returns-2 : tie.Need-returns-2
-unfolding replyOf refusalOf keptDefaults
+unfolding replyOf defaults keptDefaults
 returns-2 c =
     let filled = c .before .before .before .before .before .before .before .before .before in
     let else1 = filled .before .before .before .before .before in
@@ -57,13 +58,12 @@ returns-2 c =
     let rows = filled .fill-both .ensures in
     let pool = else1 .before .before .before .before .args .pool in
     let none = sym (number-is (else1 .before)) ∙ goes-on else1 in
+    let apart = pool-budgets (given .fill .pool .range .assets) in
     record {
-      refusal-is = sym none;
-      refused-is = λ some. absurd (some none);
+      replies = rw none (reply-answered (given .fill .pool .not-empty) (given .tranche) (λ wide.
+          answer (given .fill .pool .range) apart _ _ _ (given .tranche .upper) wide
+          (c .tranche-loss .ensures .answer-is (λ side. keptRow side (pool .probability) (pool .correlation) (pool .assets)) (rows .low-row) (rows .high-row) wide)));
       leaves = rw none (store-filled (given .fill .pool .range) (rows .store-is));
-      wide = λ _. loss-wide _ _ (given .fill .pool) (given .tranche);
-      holds-loss = λ _ wide.
-          answers-loss _ _ (given .fill .pool) (given .tranche) (pool-budgets (given .fill .pool .range .assets)) wide refl (c .tranche-loss .ensures .answer-is (λ side. keptRow side (pool .probability) (pool .correlation) (pool .assets)) (rows .low-row) (rows .high-row) wide);
     }
 
 pub tranche-loss-spec : {M : Type 1} → statement M

@@ -8,11 +8,13 @@ use lib.ListN.{length}
 use Rattle.steps.specs.Inputs.{largestPool}
 use Rattle.grounds.specs.Grounds.{columnGrounds, fourLengths, EntriesAccepted}
 use Rattle.grounds.specs.Grounds.Laws.{entries-accepted}
+use Rattle.model.specs.CorrelatedBinomial.{defaults}
 use Rattle.steps.specs.CorrelatedBinomial.{keptDefaults}
+use Rattle.steps.specs.CorrelatedBinomial.Theorems.{column}
 use Rattle.store.specs.Stores.{store, lengths}
 use Rattle.store.specs.Calls.Laws.{store-filled}
 use Rattle.pool.specs.Calls.{columnRefusal}
-use Rattle.pool.specs.Calls.Laws.{column-is-ready, printed-holds, prints-untouched}
+use Rattle.pool.specs.Calls.Laws.{column-is-ready, row-printed, prints-untouched}
 use Rattle.pool.proofs.printing.column.Statement.{statement}
 use Rattle.pool.proofs.printing.column.Tie as tie
 
@@ -37,7 +39,7 @@ print-column-requires c κs =
     (column-is-ready (given .fill .pool .range) (filled .fill-both .ensures .low-row), given .entries)
 
 printed : tie.Need-returns-2
-unfolding columnRefusal lengths store fourLengths largestPool keptDefaults
+unfolding columnRefusal lengths store fourLengths largestPool defaults keptDefaults
 printed c =
     let filled = c .before .before .before .before .before .before .before .before .before .before .before in
     let else1 = filled .before .before .before .before .before in
@@ -46,8 +48,7 @@ printed c =
     record {
       refusal-is = sym (goes-on else1) ∙ else1 .before .column-refusal .ensures;
       leaves = store-filled range (filled .fill-both .ensures .store-is);
-      units-are = rows;
-      holds-column = λ _. printed-holds range _ rows;
+      prints = row-printed _ (column range) rows;
     }
 
 pub column-spec : {M : Type 1} → statement M

@@ -1,0 +1,103 @@
+-- Demands 2 and 3 of the steps by the beta-binomial model, for every pool of up to 64 assets, every default probability p from 0 to 10,000 and every correlation ρ
+-- below 10,000, every recovery R and every tranche with B ≤ 10,000 whose width (B − A) × n is above zero. The exact value of P(j,n) is the closed form. The range of
+-- the exponents is taken from the products of quotients, whose denominators are far smaller than those of the closed form.
+-- Assumes nothing.
+use Prim.Native.Nat.{ℕ, _-_, _*_, _≤_, _<_}
+use mathlib.Core.Path.{_≡_}
+use native.Mathlib.Omega.{arith}
+use lib.Dec.{lit<, lit≤}
+use Rattle.model.specs.Fraction.{integer, times, whole}
+use Rattle.model.specs.Chances.{share, chance}
+use Rattle.model.specs.ClosedForm.{defaultsBy}
+use Rattle.model.specs.BetaBinomial.{betaProbability, betaDefaults, quotientProduct, quotientDefaults}
+use Rattle.model.specs.BetaBinomial.Theorems.{products-at-most, beta-product, defaults-same, products-complete}
+use Rattle.kept.specs.declared.Kept.{Kept}
+use Rattle.kept.specs.declared.Side.{Side}
+use Rattle.kept.specs.declared.Side.the-variants.{Low, High}
+use Rattle.kept.specs.Accuracy.{precision, BudgetFor}
+use Rattle.kept.specs.Accuracy.Laws.{budget-for-weaken}
+use Rattle.steps.specs.Budgets.{chanceBudget, tailBudget, lossBudget, WithinBudget, WithinPlaces}
+use Rattle.steps.specs.Counts.{countBudget}
+use Rattle.steps.specs.Chances.{keptLoss}
+use Rattle.steps.specs.Column.{unitsOfCertainty, half, printedTail, printedRow, tenths, PrintsTails, PrintsColumn}
+use Rattle.steps.specs.Enclosure.{Enclosed}
+use Rattle.steps.specs.Enclosure.Laws.{bound-enclosed}
+use Rattle.steps.specs.Exponents.{Ranged}
+use Rattle.steps.specs.Inputs.{largestPool, distanceFor, tenthsFor, InRange}
+use Rattle.steps.specs.Loss.{LossAnswer, lossAnswer}
+use Rattle.steps.specs.Promises.{HoldsSteps, HoldsLoss}
+use Rattle.steps.specs.Promises.Laws.{steps-ranged, row-tails, tails-column, row-enclosed, loss-holds, within-same}
+use Rattle.steps.specs.BetaBinomial.{keptEntry, keptBetaDefaults, BetaNumber, is-quotient, is-product, of-steps, quotientsBudget}
+use Rattle.steps.specs.BetaBinomial.Laws.{quotients-bound, products-digits, quotient-ranged, quotients-ranged}
+
+module _ {n p ρ : ℕ} (range : InRange largestPool n p ρ) (ρ<1 : ρ < whole) where
+  few : n ≤ 100
+  unfolding largestPool
+  few = omega (arith, range .assets)
+
+  -- The products of quotients are within their budget, and their denominators are few places long.
+  pub products-within : WithinBudget (quotientsBudget n) (quotientDefaults ρ<1 n p) (λ j. quotientProduct ρ<1 p j n) (λ side. keptEntry side n p ρ)
+  unfolding quotientDefaults quotientProduct keptEntry chance share times integer lossBudget chanceBudget countBudget quotientsBudget precision
+  products-within = record {
+    complete = products-complete p (range .probability) ρ<1 n;
+    entries = λ side j l. quotients-bound side p ρ<1 j n;
+    counted = λ j l. omega arith;
+    parts = omega (arith, few);
+    assets = few;
+  }
+
+  pub products-placed : WithinPlaces (34 * n) (quotientDefaults ρ<1 n p) (λ j. quotientProduct ρ<1 p j n)
+  unfolding quotientDefaults quotientProduct
+  products-placed = record {
+    at-most-one = λ j l. products-at-most p ρ (range .probability) j n;
+    denominators = λ j l. products-digits (range .correlation) n few;
+    denominator = products-digits (range .correlation) n few;
+    places = omega (arith, few);
+  }
+
+  -- The same against the closed form.
+  pub beta-within : WithinBudget (quotientsBudget n) (betaDefaults n p ρ) (λ j. betaProbability p ρ j n) (λ side. keptEntry side n p ρ)
+  unfolding betaDefaults defaultsBy
+  beta-within =
+      within-same (λ j. betaProbability p ρ j n) (defaults-same p (range .probability) ρ<1 n) (λ j l. beta-product p (range .probability) ρ<1 l) products-within
+
+  -- Every number that the steps make has an exponent from −80,000 to 100.
+  pub beta-exponents : (side : Side) {x : Kept} → BetaNumber side n p ρ x → Ranged x
+  unfolding quotientDefaults
+  beta-exponents side (is-quotient j t l m) = quotient-ranged side few (range .probability) ρ<1 j m
+  beta-exponents side (is-product j k l m) = quotients-ranged side few (range .probability) ρ<1 j m
+  beta-exponents side (of-steps number) = steps-ranged products-within products-placed side number
+
+  -- The budget of a loss, the largest, is one for the distance.
+  pub beta-budget : BudgetFor (distanceFor n) (lossBudget n (chanceBudget n (quotientsBudget n)))
+  unfolding distanceFor largestPool lossBudget chanceBudget countBudget quotientsBudget precision
+  beta-budget =
+      let most : BudgetFor (distanceFor n) 200 = record { positive = lit< tt; small = lit≤ tt } in
+      budget-for-weaken (omega (arith, range .assets)) most
+
+  -- Both bounds of entry j, with P(j,n) by its closed form.
+  pub beta-entries : {j : ℕ} → j ≤ n → Enclosed (distanceFor n) (keptEntry Low n p ρ j) (keptEntry High n p ρ j) (betaProbability p ρ j n)
+  unfolding betaDefaults defaultsBy lossBudget chanceBudget
+  beta-entries {j} l = bound-enclosed (budget-for-weaken (omega arith) beta-budget) (λ side. beta-within .entries side j l)
+
+  -- Both bounds of every chance, tail and tranche loss, and the exponents of all numbers.
+  pub beta-steps-hold : HoldsSteps (distanceFor n) (betaDefaults n p ρ) (λ side. keptBetaDefaults side n p ρ) (λ side. BetaNumber side n p ρ)
+  unfolding betaDefaults defaultsBy keptBetaDefaults
+  beta-steps-hold = record { enclosed = row-enclosed beta-within beta-budget; ranged = beta-exponents }
+
+  -- What holds of the loss that is answered.
+  pub beta-answer : (R A B : ℕ) → B ≤ whole → (wide : 0 < (B - A) * n) {loss : LossAnswer}
+      → loss ≡ lossAnswer (keptLoss Low n (keptBetaDefaults Low n p ρ) R A B wide) (keptLoss High n (keptBetaDefaults High n p ρ) R A B wide)
+      → unfold betaDefaults defaultsBy in HoldsLoss (distanceFor n) (betaDefaults n p ρ) (λ side. keptBetaDefaults side n p ρ) R A B wide loss
+  unfolding betaDefaults defaultsBy keptBetaDefaults
+  beta-answer R A B = loss-holds beta-within beta-budget
+
+  -- The printed tails are at most half a unit above the exact ones and less than 0.8 units below them.
+  pub beta-printed : PrintsTails half (tenths 8) (betaDefaults n p ρ) (printedTail n (keptBetaDefaults Low n p ρ))
+  unfolding betaDefaults defaultsBy keptBetaDefaults tailBudget chanceBudget countBudget quotientsBudget tenths precision unitsOfCertainty largestPool
+  beta-printed = row-tails beta-within (omega (arith, range .assets))
+
+  -- The printed rows add to 100,000, none is below zero, and each is less than 1.5 units from the exact chance.
+  pub beta-column : PrintsColumn (tenths (tenthsFor n)) (betaDefaults n p ρ) (printedTail n (keptBetaDefaults Low n p ρ)) (printedRow n (keptBetaDefaults Low n p ρ))
+  unfolding betaDefaults defaultsBy
+  beta-column = tails-column (keptBetaDefaults Low n p ρ) beta-printed
