@@ -2,7 +2,7 @@
 once. A side is 0 (low) or 1 (high)."""
 import struct
 from fractions import Fraction
-from functools import reduce
+from functools import lru_cache, reduce
 from math import comb, floor
 
 from kept import ONE, ZERO, plus, product, quotient, rounded, value
@@ -10,6 +10,7 @@ from kept import ONE, ZERO, plus, product, quotient, rounded, value
 WHOLE = 10000
 LARGEST_POOL = 64
 SCREEN_POOL = 20
+TRANCHES = 8
 UNITS = 100000
 LEAST_SHOWN = (2**31, -831)
 
@@ -20,6 +21,7 @@ def row_chances(side, row):
     return [product(side, rounded(side, comb(n, j)), row[j]) for j in range(n + 1)]
 
 
+@lru_cache(maxsize=None)
 def steps(side, n, p, rho):
     """Rows 0 to n, and the chances of 0 to n defaults."""
     p_, a, rho_, q = (rounded(side, x, WHOLE) for x in (p, WHOLE - p, rho, WHOLE - rho))
@@ -51,6 +53,7 @@ def beta_quotients(n, j, p, rho):
     ]
 
 
+@lru_cache(maxsize=None)
 def beta_steps(side, n, p, rho):
     """Row n of the beta-binomial as the only row, and the chances of 0 to n defaults."""
     row = [
@@ -174,8 +177,14 @@ def tranche_grounds(recovery, lower, upper):
     return [(4, recovery > WHOLE), (5, upper > WHOLE), (6, not lower < upper)]
 
 
-def loss_refusal(n, p, rho, recovery, lower, upper, lengths, screen=False):
-    return first(pool_grounds(n, p, rho, screen) + tranche_grounds(recovery, lower, upper) + store_ground(n, lengths))
+def counted_grounds(tranches, count):
+    """13, and those of each tranche within the count, one tranche after the other."""
+    grounds = [ground for tranche in tranches[:count] for ground in tranche_grounds(*tranche)]
+    return [(13, count == 0 or count > TRANCHES)] + grounds
+
+
+def loss_refusal(n, p, rho, tranches, count, lengths, screen=False):
+    return first(pool_grounds(n, p, rho, screen) + counted_grounds(tranches, count) + store_ground(n, lengths))
 
 
 def beta_pool_grounds(n, p, rho):
@@ -186,5 +195,5 @@ def beta_column_refusal(n, p, rho, units):
     return first(beta_pool_grounds(n, p, rho) + entries_ground(8, n, units))
 
 
-def beta_loss_refusal(n, p, rho, recovery, lower, upper):
-    return first(beta_pool_grounds(n, p, rho) + tranche_grounds(recovery, lower, upper))
+def beta_loss_refusal(n, p, rho, tranches, count):
+    return first(beta_pool_grounds(n, p, rho) + counted_grounds(tranches, count))

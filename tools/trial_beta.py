@@ -4,7 +4,7 @@ exact model, and the quotients of its steps to the closed form.
     python3 tools/trial_beta.py > crates/trial_beta/stdout
 """
 from exact import BETA, hold_implied, hold_quotients
-from trial_pool import HALF_WAY, ROWS, beta_loss, half_way, list_corners, list_half_way, list_pools, listed, no_places
+from trial_pool import HALF_WAY, REFUSED, ROWS, half_way, list_corners, list_half_way, list_pools, listed, no_places
 from trial_pool import random_cases, tranche_loss
 
 CALL = "beta column"
@@ -15,8 +15,8 @@ def column(places, n, p, rho):
     listed(CALL, n, p, rho, entries=places)
 
 
-def loss(lower, upper, n, p, rho, recovery=0):
-    beta_loss(n, p, rho, recovery, lower, upper)
+def loss(recovery, lower, upper, n, p, rho):
+    tranche_loss(n, p, rho, recovery, lower, upper, library="beta")
 
 
 def lengths(n, rho):
@@ -26,12 +26,12 @@ def lengths(n, rho):
 
 def each_wrong(n, rho):
     for p in (10000, 10001):
-        loss(0, 10000, n, p, rho)
-    for lower, upper, recovery in [
-        (0, 10000, 10000), (0, 10000, 10001), (0, 10001, 4000), (2999, 3000, 4000), (3000, 3000, 4000), (3001, 3000, 4000),
-        (9999, 10000, 0), (6000, 10000, 4000),
+        loss(0, 0, 10000, n, p, rho)
+    for tranche in [
+        (10000, 0, 10000), (10001, 0, 10000), (4000, 0, 10001), (4000, 2999, 3000), (4000, 3000, 3000), (4000, 3001, 3000),
+        (0, 9999, 10000), (4000, 6000, 10000),
     ]:
-        loss(lower, upper, n, 1000, rho, recovery)
+        loss(*tranche, n, 1000, rho)
 
 
 def order():
@@ -40,19 +40,19 @@ def order():
         (3, 1000, 10000), (3, 1000, 9999), (LARGEST, LARGEST, LARGEST), (3, LARGEST, LARGEST), (3, 1000, LARGEST),
     ]:
         column(0, *pool)
-        loss(10001, 10001, *pool, 10001)
-    for lower, upper, rho, recovery in [
-        (3000, 3000, 10000, 4000), (0, 10001, 10000, 4000), (0, 10001, 9999, 10001), (10001, 10001, 9999, 4000),
-        (3000, 3000, 9999, 10001),
+        loss(*REFUSED, *pool)
+    for *tranche, rho in [
+        (4000, 3000, 3000, 10000), (4000, 0, 10001, 10000), (10001, 0, 10001, 9999), (4000, 10001, 10001, 9999),
+        (10001, 3000, 3000, 9999),
     ]:
-        loss(lower, upper, 3, 1000, rho, recovery)
+        loss(*tranche, 3, 1000, rho)
 
 
 def losses(n):
     for p in (0, 1, 9999, 10000):
         for rho in (0, 1, 9999, 10000):
-            loss(1000, 3000, n, p, rho)
-        loss(9999, 10000, n, p, 1)
+            loss(0, 1000, 3000, n, p, rho)
+        loss(0, 9999, 10000, n, p, 1)
 
 
 def both(n, rho):
@@ -60,7 +60,7 @@ def both(n, rho):
     listed("column", n, 1000, rho)
     column(ROWS, n, 1000, rho)
     tranche_loss(n, 1000, rho, 4000, 1000, 3000)
-    loss(1000, 3000, n, 1000, rho, 4000)
+    loss(4000, 1000, 3000, n, 1000, rho)
 
 
 def printed_figures():
@@ -71,7 +71,7 @@ def printed_figures():
     for lower, upper, moody, beta in [(300, 600, 127, 126), (600, 900, 316, 315), (900, 1200, 616, 611), (1200, 2200, 978, 973)]:
         hold_implied(50, 184, moody, beta, 3500, lower, upper)
         tranche_loss(50, 184, moody, 3500, lower, upper)
-        loss(lower, upper, 50, 184, beta, 3500)
+        loss(3500, lower, upper, 50, 184, beta)
 
 
 # Pools beside those of the cases.
@@ -98,4 +98,4 @@ for n, rho in [(1, 3000), (1, 9999), (2, 1), (2, 3000), (2, 9999), (20, 0), (64,
 printed_figures()
 for n, p, rho, *tranche in random_cases(300):
     column(ROWS, n, p, rho)
-    beta_loss(n, p, rho, *tranche)
+    loss(*tranche, n, p, rho)

@@ -1,12 +1,13 @@
-"""The lines that crates/trial_pool prints of a call, by tools/pools.py. Every column and every shift list is held to the exact
-model, and on the screen and of the beta-binomial every bound."""
+"""The lines that crates/trial_pool prints of a call, by tools/pools.py. Every column, every shift list and every loss is held to
+the exact model, and on the screen and of the beta-binomial every bound.
+
+A library is "" (the one of the pool), "screen" or "beta"; a tranche is a recovery and two attachments."""
 from fractions import Fraction
-from functools import lru_cache
 
 from exact import BETA, MOODY, hold_bounds, hold_column, hold_loss, hold_quotients, hold_same, hold_shifts
 from kept import value
-from pools import UNITS, WHOLE, beta_column_refusal, beta_loss_refusal, column_refusal, fill_refusal, loss, loss_answer
-from pools import loss_refusal, printed_rows, row_refusal, shift_refusal, shifts, tails
+from pools import TRANCHES, UNITS, WHOLE, beta_column_refusal, beta_loss_refusal, column_refusal, fill_refusal, loss
+from pools import loss_answer, loss_refusal, printed_rows, row_refusal, shift_refusal, shifts, tails
 from trial_support import SEED, checksum, following, line
 
 PLACES = 2150
@@ -20,9 +21,10 @@ HALF_WAY = [
     (2, 1250, 0), (2, 2500, 2500), (2, 5000, 625), (2, 5000, 9375), (2, 8750, 0), (3, 2500, 0), (3, 5000, 5000),
     (5, 2500, 0), (5, 7500, 0), (6, 5000, 0), (10, 5000, 0),
 ]
+# A tranche that 4, 5 and 6 refuse.
+REFUSED = (WHOLE + 1, WHOLE + 1, WHOLE + 1)
 
 
-@lru_cache(maxsize=None)
 def made(n, p, rho, model=MOODY):
     """What the steps make on both sides."""
     return [model.steps(side, n, p, rho) for side in (0, 1)]
@@ -68,27 +70,27 @@ def filled_row(n, p, rho, k):
     line("filled", n, p, rho, "row", k, "part", len(part), *part)
 
 
-def hold_screen(refusal, n, p, rho, *tranche):
+def hold_screen(refusal, n, p, rho):
     """What the screen promises: bounds at most one part in 1,000,000 apart, and 11 where it has more than 20 assets and 1 does not
     apply."""
     assert (refusal == 11) == (20 < n <= 64)
     if not refusal:
         hold_bounds(1000000, n, p, rho)
-        if tranche:
-            hold_loss(1000000, n, p, rho, *tranche)
 
 
-def hold_beta(n, p, rho, *tranche):
-    """What is promised of the bounds of the beta-binomial; and of up to two assets and at correlation 0, that those of Moody's
-    model enclose the same exact values."""
+def beta_models(n, rho):
+    """The beta-binomial; and Moody's model of up to two assets and at correlation 0, where both have the same exact values."""
+    return [BETA] + [MOODY] * (n <= 2 or rho == 0)
+
+
+def hold_beta(n, p, rho):
+    """What is promised of the bounds of the beta-binomial."""
     hold_quotients(n, p, rho)
-    same = n <= 2 or rho == 0
-    if same:
+    models = beta_models(n, rho)
+    if MOODY in models:
         hold_same(n, p, rho)
-    for model in [BETA] + [MOODY] * same:
+    for model in models:
         hold_bounds(100000, n, p, rho, model)
-        if tranche:
-            hold_loss(100000, n, p, rho, *tranche, model)
 
 
 def row_words(refusal, rows):
@@ -211,40 +213,54 @@ def lists(call):
     list_half_way(call)
 
 
-def shown_loss(filled, recovery, lower, upper):
-    return loss_answer(*(loss(side, filled[side][1], recovery, lower, upper) for side in (0, 1)))
+def held_loss(library, n, p, rho, *tranche):
+    """The loss of a tranche, held to the exact one."""
+    models = beta_models(n, rho) if library == "beta" else [MOODY]
+    for model in models:
+        hold_loss(1000000 if library == "screen" else 100000, n, p, rho, *tranche, model)
+    return loss_answer(*(loss(side, models[0].steps(side, n, p, rho)[1], *tranche) for side in (0, 1)))
 
 
-def answer_words(n, p, rho, recovery, lower, upper, lengths, before=(), screen=False):
-    refusal = loss_refusal(n, p, rho, recovery, lower, upper, lengths, screen)
-    if screen:
-        hold_screen(refusal, n, p, rho, recovery, lower, upper)
-        assert refusal in (11, loss_refusal(n, p, rho, recovery, lower, upper, lengths))
-    if refusal:
-        return ["refusal", refusal, *store_words([], before)]
-    filled = made(n, p, rho)
-    return [*shown_loss(filled, recovery, lower, upper), *store_words(filled, before)]
+def losses_of(library, n, p, rho, tranches, count, lengths):
+    """The refusal of a loss call, and the losses of the tranches within the count where it is 0."""
+    if library == "beta":
+        refusal = beta_loss_refusal(n, p, rho, tranches, count)
+        if not refusal:
+            hold_beta(n, p, rho)
+    else:
+        refusal = loss_refusal(n, p, rho, tranches, count, lengths, library == "screen")
+    if library == "screen":
+        hold_screen(refusal, n, p, rho)
+        assert refusal in (11, loss_refusal(n, p, rho, tranches, count, lengths))
+    return refusal, [] if refusal else [held_loss(library, n, p, rho, *tranche) for tranche in tranches[:count]]
 
 
-def tranche_loss(n, p, rho, recovery, lower, upper, lengths=AMPLE, screen=False):
-    words = answer_words(n, p, rho, recovery, lower, upper, lengths, (), screen)
-    line(*["screen"] * screen, "loss", n, p, rho, recovery, "tranche", lower, upper, "lengths", *lengths, *words)
+def loss_line(name, library, pool, given, tranches, count, lengths=AMPLE, other=()):
+    """A loss call, on marked slices or on slices that hold another pool's store. That of the beta-binomial is lent no store. Gives
+    what it answers."""
+    refusal, losses = losses_of(library, *pool, tranches, count, lengths)
+    words = ["over", *other] if other else []
+    words += [library] * (library != "") + [name, *pool, *given]
+    words += ["lengths", *lengths] if library != "beta" and not other else []
+    words += ["refusal", refusal] if refusal else [word for answer in losses for word in answer]
+    if library != "beta":
+        words += store_words([] if refusal else made(*pool), made(*other) if other else ())
+    line(*words)
+    return refusal, losses
 
 
-def beta_loss(n, p, rho, recovery, lower, upper):
-    """The loss of the beta-binomial."""
-    refusal = beta_loss_refusal(n, p, rho, recovery, lower, upper)
-    words = ["refusal", refusal]
-    if not refusal:
-        hold_beta(n, p, rho, recovery, lower, upper)
-        words = shown_loss(made(n, p, rho, BETA), recovery, lower, upper)
-    line("beta loss", n, p, rho, recovery, "tranche", lower, upper, *words)
+def tranche_loss(n, p, rho, recovery, lower, upper, lengths=AMPLE, library="", other=()):
+    """The loss of one tranche. The records behind it would be refused."""
+    tranches = [(recovery, lower, upper)] + [REFUSED] * (TRANCHES - 1)
+    loss_line("loss", library, (n, p, rho), [recovery, "tranche", lower, upper], tranches, 1, lengths, other)
 
 
-def loss_over(other, n, p, rho, recovery, lower, upper, screen=False):
-    """The loss on slices that hold another pool's store."""
-    words = answer_words(n, p, rho, recovery, lower, upper, AMPLE, made(*other), screen)
-    line("over", *other, *["screen"] * screen, "loss", n, p, rho, recovery, "tranche", lower, upper, *words)
+def tranche_losses(library, pool, tranches, count, lengths=AMPLE, other=()):
+    """The losses of several tranches. Gives what the call answers."""
+    assert len(tranches) == TRANCHES
+    within, past = ([number for tranche in part for number in tranche] for part in (tranches[:count], tranches[count:]))
+    given = ["count", count, "tranches", *within, *["unread"] * (past != []), *past]
+    return loss_line("losses", library, pool, given, tranches, count, lengths, other)
 
 
 def basis_points(word):
@@ -267,31 +283,46 @@ def assets(word):
 
 def random_pool(word):
     n, second = assets(word), following(word)
-    third = following(second)
-    p, rho = (1, 0) if n > 55 and second % 2 == 0 else (basis_points(second), basis_points(third))
-    return n, p, rho, basis_points(following(third))
+    p, rho = (1, 0) if n > 55 and second % 2 == 0 else (basis_points(second), basis_points(following(second)))
+    return n, p, rho
 
 
 def small_pool(word):
     """Of 1 to 20 assets."""
     second = following(word)
-    third = following(second)
-    return 1 + (word >> 8) % 20, basis_points(second), basis_points(third), basis_points(following(third))
+    return 1 + (word >> 8) % 20, basis_points(second), basis_points(following(second))
 
 
-def random_tranche(word, recovery):
+def random_tranche(word):
+    recovery = basis_points(word)
     largest = WHOLE - recovery
-    if word % 2 == 0 and largest > 0:
-        return largest - 1, largest
-    second = following(word)
-    return basis_points(second), basis_points(following(second))
+    if following(word) % 2 == 0 and largest > 0:
+        return recovery, largest - 1, largest
+    return recovery, basis_points(following(word, 2)), basis_points(following(word, 3))
+
+
+def likely_tranche(word):
+    """Fifteen in sixteen brought into range."""
+    recovery, lower, upper = random_tranche(word)
+    if word >> 60 == 0:
+        return recovery, lower, upper
+    upper = upper % WHOLE or WHOLE
+    return recovery % (WHOLE + 1), lower % upper, upper
 
 
 def random_cases(count, random_pool=random_pool):
     """Pools with a tranche each."""
     word = SEED
     for _ in range(count):
-        other = following(following(following(following(word))))
-        pool = random_pool(word)
-        yield *pool, *random_tranche(other, pool[3])
-        word = following(following(following(other)))
+        yield *random_pool(word), *random_tranche(following(word, 3))
+        word = following(word, 7)
+
+
+def random_losses(count):
+    """Two pools, the second of 1 to 20 assets; eight tranches and a count from 0 to 10."""
+    word = SEED
+    for _ in range(count):
+        fourth = following(word, 3)
+        tranches = [likely_tranche(following(fourth, 1 + 4 * i)) for i in range(TRANCHES)]
+        yield random_pool(word), small_pool(word), tranches, (fourth >> 8) % 11
+        word = following(word, 36)

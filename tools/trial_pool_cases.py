@@ -6,7 +6,7 @@ from math import comb
 
 from kept import ZERO, plus, rounded, value
 from pools import in_units, printed_tails
-from trial_pool import OTHERS, STORES, fill, filled_row, lengths_of, listed, lists, longer, loss_over, made, row, tranche_loss
+from trial_pool import OTHERS, STORES, fill, filled_row, lengths_of, listed, lists, longer, made, row, tranche_loss
 
 LARGEST = 2**32 - 1
 
@@ -62,8 +62,8 @@ def losses():
             tranche_loss(n, 1000, 3000, 4000, 1000, 3000, lengths)
         tranche_loss(n, 1000, 3000, 4000, 3000, 3000, [exact - 1] * 4)
     for other in OTHERS:
-        loss_over(other, 3, 1000, 3000, 4000, 1000, 3000)
-    loss_over(OTHERS[0], 3, 1000, 3000, 4000, 3000, 3000)
+        tranche_loss(3, 1000, 3000, 4000, 1000, 3000, other=other)
+    tranche_loss(3, 1000, 3000, 4000, 3000, 3000, other=OTHERS[0])
 
 
 def added(numbers):

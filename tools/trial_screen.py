@@ -2,7 +2,7 @@
 
     python3 tools/trial_screen.py > crates/trial_screen/stdout
 """
-from trial_pool import AMPLE, OTHERS, ROWS, lengths_of, list_lengths, listed, lists, longer, loss_over, random_cases, small_pool
+from trial_pool import AMPLE, OTHERS, ROWS, lengths_of, list_lengths, listed, lists, longer, random_cases, small_pool
 from trial_pool import tranche_loss
 
 NONE = [0] * 4
@@ -13,8 +13,8 @@ def column(n, p=1000, rho=3000, lengths=AMPLE, units=ROWS):
     listed("screen column", n, p, rho, lengths, units)
 
 
-def loss(n, recovery, lower, upper, p=1000, rho=3000, lengths=AMPLE):
-    tranche_loss(n, p, rho, recovery, lower, upper, lengths, screen=True)
+def loss(n, recovery, lower, upper, p=1000, rho=3000, lengths=AMPLE, other=()):
+    tranche_loss(n, p, rho, recovery, lower, upper, lengths, "screen", other)
 
 
 def around(n):
@@ -56,7 +56,7 @@ def losses(n, exact):
     for lengths in lengths_of(exact):
         loss(n, 4000, 1000, 3000, lengths=lengths)
     for other in OTHERS:
-        loss_over(other, n, 1000, 3000, 4000, 1000, 3000, screen=True)
+        loss(n, 4000, 1000, 3000, other=other)
 
 
 for n in (0, 1, 20, 21, 64, 65, LARGEST):

@@ -6,11 +6,13 @@ def line(*words):
     print(" ".join(str(word) for word in words))
 
 
-def following(word):
-    """The next random word of 64 bits."""
-    word ^= (word << 13) % 2**64
-    word ^= word >> 7
-    return word ^ (word << 17) % 2**64
+def following(word, count=1):
+    """The random word of 64 bits so many words later."""
+    for _ in range(count):
+        word ^= (word << 13) % 2**64
+        word ^= word >> 7
+        word ^= (word << 17) % 2**64
+    return word
 
 
 def checksum(numbers, signed=False):

@@ -3,19 +3,19 @@
 use Prim.Native.Nat.{ℕ, _≤_}
 use mathlib.Core.Path.{_≡_}
 use mathlib.Core.List.{List}
-use lib.ListN.{length}
+use lib.ListN.{length, take}
 use Rattle.model.specs.BetaBinomial.{betaProbability, betaDefaults}
 use Rattle.kept.specs.declared.Side.the-variants.{Low, High}
 use Rattle.steps.specs.BetaBinomial.{keptEntry, keptBetaDefaults, BetaNumber}
 use Rattle.steps.specs.Column.{tenths}
 use Rattle.steps.specs.Enclosure.{Enclosed}
+use Rattle.steps.specs.declared.Tranche.{Tranche}
+use Rattle.steps.specs.Loss.{LossAnswer}
 use Rattle.steps.specs.Inputs.{largestPool, distanceFor, tenthsFor}
 use Rattle.steps.specs.Promises.{HoldsSteps}
 use Rattle.grounds.specs.Grounds.{firstGround, betaColumnGrounds, betaLossGrounds}
 use Rattle.store.specs.declared.Pool.{Pool}
-use Rattle.pool.specs.declared.Tranche.{Tranche}
-use Rattle.pool.specs.Answers.{LossReply}
-use Rattle.pool.specs.Calls.{PrintsRow, RepliesLoss}
+use Rattle.pool.specs.Calls.{PrintsRow, RepliesLosses}
 pub mod Laws
 pub mod Demands
 
@@ -35,14 +35,14 @@ pub record BetaPrints (pool : Pool) (units units′ : List ℕ) (refusal : ℕ) 
   pub prints : PrintsRow (tenths (tenthsFor (pool .assets))) (betaDefaults (pool .assets) (pool .probability) (pool .correlation))
       (keptBetaDefaults Low (pool .assets) (pool .probability) (pool .correlation)) units units′ refusal
 
--- ---- loss
+-- ---- losses
 
-unfoldable pub betaLossRefusal : Pool → Tranche → ℕ
-betaLossRefusal pool tranche =
-    firstGround (betaLossGrounds largestPool (pool .assets) (pool .probability) (pool .correlation) (pool .recovery) (tranche .lower) (tranche .upper))
+unfoldable pub betaLossRefusal : Pool → List Tranche → ℕ → ℕ
+betaLossRefusal pool tranches count =
+    firstGround (betaLossGrounds largestPool (pool .assets) (pool .probability) (pool .correlation) tranches count)
 
-pub record BetaReplies (pool : Pool) (tranche : Tranche) (reply : LossReply) : Type 0 where
-  pub holds : betaLossRefusal pool tranche ≡ 0 → HoldsBeta (pool .assets) (pool .probability) (pool .correlation)
-  pub replies : RepliesLoss (distanceFor (pool .assets)) (betaDefaults (pool .assets) (pool .probability) (pool .correlation))
-      (λ side. keptBetaDefaults side (pool .assets) (pool .probability) (pool .correlation)) (pool .recovery) (tranche .lower) (tranche .upper)
-      (betaLossRefusal pool tranche) reply
+pub record BetaReplies (pool : Pool) (tranches : List Tranche) (count refusal : ℕ) (losses : List LossAnswer) : Type 0 where
+  pub refusal-is : refusal ≡ betaLossRefusal pool tranches count
+  pub holds : refusal ≡ 0 → HoldsBeta (pool .assets) (pool .probability) (pool .correlation)
+  pub replies : RepliesLosses (distanceFor (pool .assets)) (betaDefaults (pool .assets) (pool .probability) (pool .correlation))
+      (λ side. keptBetaDefaults side (pool .assets) (pool .probability) (pool .correlation)) (take count tranches) refusal losses

@@ -1,37 +1,31 @@
-// Works out the expected loss of a tranche.
+// Works out the expected losses of tranches.
 use beta_binomial_rows::row;
 use kept::Side;
 use pool::Answer;
 use pool::Pool;
+use pool::TRANCHES;
 use pool::Tranche;
 use steps::LARGEST_POOL;
-ghost use Rattle.pool.specs.Answers.{replyOf};
+ghost use Rattle.expected_losses.specs.Loss.{lossesIn};
 ghost use Rattle.beta_binomial.specs.Calls.{BetaReplies};
 
-// The expected loss of a tranche of the pool. Refuses by 12 at full correlation, directly after 3.
-pub fn tranche_loss(pool: Pool, tranche: Tranche) -> Answer
-    ensures { λ r. ⌜ BetaReplies pool tranche (replyOf r) ⌝ }
+// The expected losses of the first `count` tranches, each with its own recovery. The records past them are never looked at. Refuses by
+// 12 at full correlation, directly after 3.
+pub fn tranche_losses(pool: Pool, tranches: [Tranche; TRANCHES], count: u32) -> Answer
+    ensures { λ r. ⌜ BetaReplies pool tranches count (r .refusal) (lossesIn (r .losses)) ⌝ }
 {
     let refusal = grounds::beta_loss_refusal(
         LARGEST_POOL,
         pool.assets,
         pool.probability,
         pool.correlation,
-        pool.recovery,
-        tranche.lower,
-        tranche.upper,
+        tranches,
+        count,
     );
     if refusal != 0 {
-        return Answer::Refused(refusal);
+        return expected_losses::refused(refusal);
     }
     let low = row(pool.assets, pool.probability, pool.correlation, Side::Low);
     let high = row(pool.assets, pool.probability, pool.correlation, Side::High);
-    Answer::Answered(chances::losses::tranche_loss(
-        pool.assets,
-        low,
-        high,
-        pool.recovery,
-        tranche.lower,
-        tranche.upper,
-    ))
+    expected_losses::tranche_losses(pool.assets, low, high, tranches, count)
 }

@@ -6,7 +6,7 @@ use steps::LARGEST_POOL;
 ghost use Rattle.beta_binomial.specs.Calls.{BetaPrints};
 
 // Writes rows 0 to n of the column, each the difference of two printed tails, and nothing behind them. Gives the number of a refusal,
-// or 0. Refuses by 12 at full correlation, directly after 3. The recovery plays no part.
+// or 0. Refuses by 12 at full correlation, directly after 3.
 pub fn column(pool: Pool, units: &mut [u32]) -> u32
     ensures { λ r. ⌜ BetaPrints pool (now (units .entry)) (now (units .exit)) r ⌝ }
 {

@@ -1,4 +1,3 @@
 pub mod Counts
 pub mod Chances
 pub mod Tails
-pub mod Loss

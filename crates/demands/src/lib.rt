@@ -2,13 +2,14 @@
 // contracts in their source imply the page.
 use pool::Answer;
 use pool::Pool;
+use pool::TRANCHES;
 use pool::Tranche;
 ghost use mathlib.Core.Path.{_≡_};
 ghost use Prim.Native.Nat.{ℕ};
 ghost use lib.ListN.{length};
 ghost use Rattle.grounds.specs.Grounds.{firstGround, rowGrounds};
-ghost use Rattle.pool.specs.Demands.{BetaColumnDemands, BetaTrancheDemands};
-ghost use Rattle.pool.specs.Demands.{lent, FillDemands, RowDemands, ColumnDemands, ShiftDemands, TrancheDemands, ScreenColumnDemands, ScreenTrancheDemands};
+ghost use Rattle.pool.specs.Demands.{BetaColumnDemands, BetaTranchesDemands};
+ghost use Rattle.pool.specs.Demands.{lent, FillDemands, RowDemands, ColumnDemands, ShiftDemands, TranchesDemands, ScreenColumnDemands, ScreenTranchesDemands};
 
 pub fn fill(
     pool: Pool,
@@ -93,22 +94,24 @@ pub fn shift_list(
     )
 }
 
-pub fn tranche_loss(
+pub fn tranche_losses(
     pool: Pool,
-    tranche: Tranche,
+    tranches: [Tranche; TRANCHES],
+    count: u32,
     low_significands: &mut [u32],
     high_significands: &mut [u32],
     low_exponents: &mut [i32],
     high_exponents: &mut [i32],
 ) -> Answer
-    ensures { λ r. ⌜ TrancheDemands pool tranche
+    ensures { λ r. ⌜ TranchesDemands pool tranches count
         (lent (now («low_significands» .entry)) (now («high_significands» .entry)) (now («low_exponents» .entry)) (now («high_exponents» .entry)))
         (lent (now («low_significands» .exit)) (now («high_significands» .exit)) (now («low_exponents» .exit)) (now («high_exponents» .exit)))
         r ⌝ }
 {
-    pool::tranche_loss(
+    pool::tranche_losses(
         pool,
-        tranche,
+        tranches,
+        count,
         low_significands,
         high_significands,
         low_exponents,
@@ -141,22 +144,24 @@ pub fn screen_column(
     )
 }
 
-pub fn screen_tranche_loss(
+pub fn screen_tranche_losses(
     pool: Pool,
-    tranche: Tranche,
+    tranches: [Tranche; TRANCHES],
+    count: u32,
     low_significands: &mut [u32],
     high_significands: &mut [u32],
     low_exponents: &mut [i32],
     high_exponents: &mut [i32],
 ) -> Answer
-    ensures { λ r. ⌜ ScreenTrancheDemands pool tranche
+    ensures { λ r. ⌜ ScreenTranchesDemands pool tranches count
         (lent (now («low_significands» .entry)) (now («high_significands» .entry)) (now («low_exponents» .entry)) (now («high_exponents» .entry)))
         (lent (now («low_significands» .exit)) (now («high_significands» .exit)) (now («low_exponents» .exit)) (now («high_exponents» .exit)))
         r ⌝ }
 {
-    screen::tranche_loss(
+    screen::tranche_losses(
         pool,
-        tranche,
+        tranches,
+        count,
         low_significands,
         high_significands,
         low_exponents,
@@ -170,8 +175,8 @@ pub fn beta_column(pool: Pool, units: &mut [u32]) -> u32
     beta_binomial::column(pool, units)
 }
 
-pub fn beta_tranche_loss(pool: Pool, tranche: Tranche) -> Answer
-    ensures { λ r. ⌜ BetaTrancheDemands pool tranche r ⌝ }
+pub fn beta_tranche_losses(pool: Pool, tranches: [Tranche; TRANCHES], count: u32) -> Answer
+    ensures { λ r. ⌜ BetaTranchesDemands pool tranches count r ⌝ }
 {
-    beta_binomial::tranche_loss(pool, tranche)
+    beta_binomial::tranche_losses(pool, tranches, count)
 }

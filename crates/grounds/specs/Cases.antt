@@ -1,17 +1,20 @@
 -- The grounds in figures: each for every input, those that each call checks, in order, for each ground of the library inputs to which it alone applies, what
--- the screen answers around its ceiling, and what the beta-binomial answers around full correlation.
+-- a loss call answers by its tranches and their count, what the screen answers around its ceiling, and what the beta-binomial answers around full correlation.
 -- Assumes nothing.
 use Prim.Native.Nat.{ℕ, suc, _+_, _*_, _/_}
 use mathlib.Core.Path.{_≡_, refl}
 use mathlib.Core.Bool.{true, false, cond, not, _||_}
-use mathlib.Core.List.{List, [], _∷_}
+use mathlib.Core.List.{List, [], _∷_, _++_}
 use lib.Dec.{eqb, ltb}
+use lib.ListN.{take, replicate}
 use Rattle.model.specs.Fraction.{whole}
+use Rattle.steps.specs.declared.Tranche.{Tranche}
 use Rattle.steps.specs.Inputs.{largestPool, screenPool}
+use Rattle.steps.specs.Tranches.{tranchePlaces}
 use Rattle.grounds.specs.Grounds.{Ground, firstOf, firstGround, storePlaces, someShorter, assetsGround, probabilityGround, correlationGround, recoveryGround, upperGround}
-use Rattle.grounds.specs.Grounds.{attachmentsGround, storeGround, entriesGround, rowGround, screenGround, fullCorrelationGround, poolGrounds, trancheGrounds}
-use Rattle.grounds.specs.Grounds.{fillGrounds, rowGrounds, entriesGrounds, columnGrounds, shiftGrounds, lossGrounds, screened, screenColumnGrounds, screenLossGrounds}
-use Rattle.grounds.specs.Grounds.{betaPoolGrounds, betaColumnGrounds, betaLossGrounds}
+use Rattle.grounds.specs.Grounds.{attachmentsGround, storeGround, entriesGround, rowGround, screenGround, fullCorrelationGround, countGround, poolGrounds}
+use Rattle.grounds.specs.Grounds.{trancheGrounds, tranchesGrounds, countedGrounds, fillGrounds, rowGrounds, entriesGrounds, columnGrounds, shiftGrounds, lossGrounds}
+use Rattle.grounds.specs.Grounds.{screened, screenColumnGrounds, screenLossGrounds, betaPoolGrounds, betaColumnGrounds, betaLossGrounds}
 
 -- The first ground that applies: one that does gives its number, whatever follows; one that does not leaves it to the others; none gives 0.
 pub first : (m : ℕ) (gs : List Ground)
@@ -22,7 +25,7 @@ unfolding firstGround firstOf
 first m gs = (refl, refl, refl)
 
 -- Each ground in figures, for every input.
-pub figures : (n p ρ R A B k units shifts : ℕ) (lengths : List ℕ)
+pub figures : (n p ρ R A B k units shifts count : ℕ) (lengths : List ℕ)
     → (assetsGround largestPool n ≡ record { number = 1; applies = eqb n 0 || ltb 64 n })
     × (probabilityGround p ≡ record { number = 2; applies = ltb 10000 p })
     × (correlationGround ρ ≡ record { number = 3; applies = ltb 10000 ρ })
@@ -35,39 +38,42 @@ pub figures : (n p ρ R A B k units shifts : ℕ) (lengths : List ℕ)
     × (entriesGround 10 n shifts ≡ record { number = 10; applies = ltb shifts (n + 1) })
     × (screenGround screenPool n ≡ record { number = 11; applies = ltb 20 n })
     × (fullCorrelationGround ρ ≡ record { number = 12; applies = eqb ρ 10000 })
-unfolding assetsGround probabilityGround correlationGround recoveryGround upperGround attachmentsGround storeGround entriesGround rowGround screenGround fullCorrelationGround storePlaces largestPool screenPool whole
-figures n p ρ R A B k units shifts lengths = (refl, refl, refl, refl, refl, refl, refl, refl, refl, refl, refl, refl)
+    × (countGround count ≡ record { number = 13; applies = eqb count 0 || ltb 8 count })
+unfolding assetsGround probabilityGround correlationGround recoveryGround upperGround attachmentsGround storeGround entriesGround rowGround screenGround fullCorrelationGround countGround storePlaces tranchePlaces largestPool screenPool whole
+figures n p ρ R A B k units shifts count lengths = (refl, refl, refl, refl, refl, refl, refl, refl, refl, refl, refl, refl, refl)
 
 -- The grounds that each call checks, in order, with what it is given.
-pub orders : (most limit n p ρ R A B k length units shifts : ℕ) (lengths : List ℕ)
+pub orders : (most limit n p ρ k length units shifts count : ℕ) (t : Tranche) (ts : List Tranche) (lengths : List ℕ)
     → (fillGrounds most n p ρ lengths ≡ assetsGround most n ∷ probabilityGround p ∷ correlationGround ρ ∷ storeGround n lengths ∷ [])
     × (rowGrounds most n k length ≡ assetsGround most n ∷ storeGround n (length ∷ []) ∷ rowGround n k ∷ [])
     × (columnGrounds most n p ρ lengths units
     ≡ assetsGround most n ∷ probabilityGround p ∷ correlationGround ρ ∷ storeGround n lengths ∷ entriesGround 8 n units ∷ [])
     × (shiftGrounds most n p ρ lengths shifts
     ≡ assetsGround most n ∷ probabilityGround p ∷ correlationGround ρ ∷ storeGround n lengths ∷ entriesGround 10 n shifts ∷ [])
-    × (lossGrounds most n p ρ R A B lengths
-    ≡ assetsGround most n ∷ probabilityGround p ∷ correlationGround ρ ∷ recoveryGround R ∷ upperGround B ∷ attachmentsGround A B ∷ storeGround n lengths ∷ [])
+    × (tranchesGrounds [] ≡ [])
+    × (tranchesGrounds (t ∷ ts) ≡ recoveryGround (t .recovery) ∷ upperGround (t .upper) ∷ attachmentsGround (t .lower) (t .upper) ∷ tranchesGrounds ts)
+    × (lossGrounds most n p ρ ts count lengths
+    ≡ assetsGround most n ∷ probabilityGround p ∷ correlationGround ρ ∷ countGround count ∷ (tranchesGrounds (take count ts) ++ (storeGround n lengths ∷ [])))
     × (screenColumnGrounds most limit n p ρ lengths units
     ≡ assetsGround most n ∷ screenGround limit n ∷ probabilityGround p ∷ correlationGround ρ ∷ storeGround n lengths ∷ entriesGround 8 n units ∷ [])
-    × (screenLossGrounds most limit n p ρ R A B lengths
-    ≡ assetsGround most n ∷ screenGround limit n ∷ probabilityGround p ∷ correlationGround ρ ∷ recoveryGround R ∷ upperGround B ∷ attachmentsGround A B
-    ∷ storeGround n lengths ∷ [])
+    × (screenLossGrounds most limit n p ρ ts count lengths
+    ≡ assetsGround most n ∷ screenGround limit n ∷ probabilityGround p ∷ correlationGround ρ ∷ countGround count
+    ∷ (tranchesGrounds (take count ts) ++ (storeGround n lengths ∷ [])))
     × (betaColumnGrounds most n p ρ units
     ≡ assetsGround most n ∷ probabilityGround p ∷ correlationGround ρ ∷ fullCorrelationGround ρ ∷ entriesGround 8 n units ∷ [])
-    × (betaLossGrounds most n p ρ R A B
-    ≡ assetsGround most n ∷ probabilityGround p ∷ correlationGround ρ ∷ fullCorrelationGround ρ ∷ recoveryGround R ∷ upperGround B ∷ attachmentsGround A B ∷ [])
-unfolding fillGrounds rowGrounds entriesGrounds columnGrounds shiftGrounds lossGrounds screened screenColumnGrounds screenLossGrounds betaPoolGrounds betaColumnGrounds betaLossGrounds poolGrounds trancheGrounds
-orders most limit n p ρ R A B k length units shifts lengths = (refl, refl, refl, refl, refl, refl, refl, refl, refl)
+    × (betaLossGrounds most n p ρ ts count
+    ≡ assetsGround most n ∷ probabilityGround p ∷ correlationGround ρ ∷ fullCorrelationGround ρ ∷ countGround count ∷ tranchesGrounds (take count ts))
+unfolding fillGrounds rowGrounds entriesGrounds columnGrounds shiftGrounds lossGrounds screened screenColumnGrounds screenLossGrounds betaPoolGrounds betaColumnGrounds betaLossGrounds poolGrounds trancheGrounds tranchesGrounds countedGrounds
+orders most limit n p ρ k length units shifts count t ts lengths = (refl, refl, refl, refl, refl, refl, refl, refl, refl, refl, refl)
 
--- The numbers of the grounds that apply, of the ten of the library.
+-- The numbers of the grounds that apply, of those of the library, with one tranche.
 abbrev applying : List Ground → List ℕ
 applying [] = []
 applying (g ∷ gs) = cond (g .applies) (g .number ∷ applying gs) (applying gs)
 
-abbrev refusing : (n p ρ R A B : ℕ) (lengths : List ℕ) (units k shifts : ℕ) → List ℕ
-refusing n p ρ R A B lengths units k shifts =
-    applying (assetsGround largestPool n ∷ probabilityGround p ∷ correlationGround ρ ∷ recoveryGround R ∷ upperGround B ∷ attachmentsGround A B
+abbrev refusing : (n p ρ count R A B : ℕ) (lengths : List ℕ) (units k shifts : ℕ) → List ℕ
+refusing n p ρ count R A B lengths units k shifts =
+    applying (assetsGround largestPool n ∷ probabilityGround p ∷ correlationGround ρ ∷ countGround count ∷ recoveryGround R ∷ upperGround B ∷ attachmentsGround A B
     ∷ storeGround n lengths ∷ entriesGround 8 n units ∷ rowGround n k ∷ entriesGround 10 n shifts ∷ [])
 
 -- Four slices, the last with a length of its own.
@@ -76,42 +82,79 @@ slices places last = places ∷ places ∷ places ∷ last ∷ []
 
 -- At the edge of every ground none applies, and one past it each alone.
 pub table :
-    (refusing 1 0 0 0 0 1 (slices 3 3) 2 1 2 ≡ [])
-    × (refusing 64 10000 10000 10000 9999 10000 (slices 2145 2145) 65 64 65 ≡ [])
-    × (refusing 0 0 0 0 0 1 (slices 3 3) 2 0 1 ≡ 1 ∷ [])
-    × (refusing 65 10000 10000 10000 9999 10000 (slices 2211 2211) 66 64 66 ≡ 1 ∷ [])
-    × (refusing 64 10001 10000 10000 9999 10000 (slices 2145 2145) 65 64 65 ≡ 2 ∷ [])
-    × (refusing 64 10000 10001 10000 9999 10000 (slices 2145 2145) 65 64 65 ≡ 3 ∷ [])
-    × (refusing 64 10000 10000 10001 9999 10000 (slices 2145 2145) 65 64 65 ≡ 4 ∷ [])
-    × (refusing 64 10000 10000 10000 9999 10001 (slices 2145 2145) 65 64 65 ≡ 5 ∷ [])
-    × (refusing 64 10000 10000 10000 10000 10000 (slices 2145 2145) 65 64 65 ≡ 6 ∷ [])
-    × (refusing 64 10000 10000 10000 9999 10000 (slices 2145 2144) 65 64 65 ≡ 7 ∷ [])
-    × (refusing 64 10000 10000 10000 9999 10000 (slices 2145 2145) 64 64 65 ≡ 8 ∷ [])
-    × (refusing 64 10000 10000 10000 9999 10000 (slices 2145 2145) 65 65 65 ≡ 9 ∷ [])
-    × (refusing 64 10000 10000 10000 9999 10000 (slices 2145 2145) 65 64 64 ≡ 10 ∷ [])
-unfolding assetsGround probabilityGround correlationGround recoveryGround upperGround attachmentsGround storeGround entriesGround rowGround storePlaces someShorter largestPool whole
-table = (refl, refl, refl, refl, refl, refl, refl, refl, refl, refl, refl, refl, refl)
+    (refusing 1 0 0 1 0 0 1 (slices 3 3) 2 1 2 ≡ [])
+    × (refusing 64 10000 10000 8 10000 9999 10000 (slices 2145 2145) 65 64 65 ≡ [])
+    × (refusing 0 0 0 1 0 0 1 (slices 3 3) 2 0 1 ≡ 1 ∷ [])
+    × (refusing 65 10000 10000 8 10000 9999 10000 (slices 2211 2211) 66 64 66 ≡ 1 ∷ [])
+    × (refusing 64 10001 10000 8 10000 9999 10000 (slices 2145 2145) 65 64 65 ≡ 2 ∷ [])
+    × (refusing 64 10000 10001 8 10000 9999 10000 (slices 2145 2145) 65 64 65 ≡ 3 ∷ [])
+    × (refusing 64 10000 10000 0 10000 9999 10000 (slices 2145 2145) 65 64 65 ≡ 13 ∷ [])
+    × (refusing 64 10000 10000 9 10000 9999 10000 (slices 2145 2145) 65 64 65 ≡ 13 ∷ [])
+    × (refusing 64 10000 10000 8 10001 9999 10000 (slices 2145 2145) 65 64 65 ≡ 4 ∷ [])
+    × (refusing 64 10000 10000 8 10000 9999 10001 (slices 2145 2145) 65 64 65 ≡ 5 ∷ [])
+    × (refusing 64 10000 10000 8 10000 10000 10000 (slices 2145 2145) 65 64 65 ≡ 6 ∷ [])
+    × (refusing 64 10000 10000 8 10000 9999 10000 (slices 2145 2144) 65 64 65 ≡ 7 ∷ [])
+    × (refusing 64 10000 10000 8 10000 9999 10000 (slices 2145 2145) 64 64 65 ≡ 8 ∷ [])
+    × (refusing 64 10000 10000 8 10000 9999 10000 (slices 2145 2145) 65 65 65 ≡ 9 ∷ [])
+    × (refusing 64 10000 10000 8 10000 9999 10000 (slices 2145 2145) 65 64 64 ≡ 10 ∷ [])
+unfolding assetsGround probabilityGround correlationGround recoveryGround upperGround attachmentsGround storeGround entriesGround rowGround countGround storePlaces someShorter tranchePlaces largestPool whole
+table = (refl, refl, refl, refl, refl, refl, refl, refl, refl, refl, refl, refl, refl, refl, refl)
+
+abbrev tranche : (R A B : ℕ) → Tranche
+tranche R A B = record { recovery = R; lower = A; upper = B }
+
+-- A tranche that no ground refuses, and one that 4 to 6 refuse.
+abbrev accepted : Tranche
+accepted = tranche 10000 9999 10000
+
+abbrev refused : Tranche
+refused = tranche 10001 10001 10001
+
+abbrev loss : (ρ : ℕ) (ts : List Tranche) (count places : ℕ) → ℕ
+loss ρ ts count places = firstGround (lossGrounds largestPool 64 10000 ρ ts count (slices places places))
+
+-- The count at its edges, and with what is checked before and after it wrong; then tranches one after the other, up to the count.
+pub tranches-table :
+    (loss 10000 (replicate 8 accepted) 1 2145 ≡ 0)
+    × (loss 10000 (replicate 8 accepted) 8 2145 ≡ 0)
+    × (loss 10000 (replicate 8 accepted) 0 2145 ≡ 13)
+    × (loss 10000 (replicate 8 accepted) 9 2145 ≡ 13)
+    × (loss 10000 (replicate 8 accepted) 4294967295 2145 ≡ 13)
+    × (loss 10000 (replicate 8 refused) 0 2144 ≡ 13)
+    × (loss 10000 (replicate 8 refused) 9 2144 ≡ 13)
+    × (loss 10000 (replicate 8 accepted) 9 2144 ≡ 13)
+    × (loss 10001 (replicate 8 refused) 9 2144 ≡ 3)
+    × (loss 10000 (replicate 8 refused) 1 2144 ≡ 4)
+    × (loss 10000 (accepted ∷ replicate 7 refused) 1 2145 ≡ 0)
+    × (loss 10000 (accepted ∷ replicate 7 refused) 1 2144 ≡ 7)
+    × (loss 10000 (accepted ∷ replicate 7 refused) 2 2144 ≡ 4)
+    × (loss 10000 (tranche 10000 10000 10000 ∷ replicate 7 refused) 8 2144 ≡ 6)
+    × (loss 10000 (tranche 10000 10000 10001 ∷ replicate 7 refused) 8 2144 ≡ 5)
+    × (loss 10000 (replicate 7 accepted ++ (refused ∷ [])) 7 2145 ≡ 0)
+    × (loss 10000 (replicate 7 accepted ++ (refused ∷ [])) 8 2144 ≡ 4)
+unfolding firstOf firstGround assetsGround probabilityGround correlationGround recoveryGround upperGround attachmentsGround storeGround countGround storePlaces someShorter lossGrounds poolGrounds trancheGrounds tranchesGrounds countedGrounds tranchePlaces largestPool whole
+tranches-table = (refl, refl, refl, refl, refl, refl, refl, refl, refl, refl, refl, refl, refl, refl, refl, refl, refl)
 
 -- The screen's column and loss for n assets: the number with all else right, and with all else wrong.
 abbrev OnScreen : (n right wrong : ℕ) → Type 0
 OnScreen n right wrong =
     (firstGround (screenColumnGrounds largestPool screenPool n 1000 3000 (slices 2211 2211) 66) ≡ right)
-    × (firstGround (screenLossGrounds largestPool screenPool n 1000 3000 4000 1000 3000 (slices 2211 2211)) ≡ right)
+    × (firstGround (screenLossGrounds largestPool screenPool n 1000 3000 (tranche 4000 1000 3000 ∷ []) 1 (slices 2211 2211)) ≡ right)
     × (firstGround (screenColumnGrounds largestPool screenPool n 10001 10001 (slices 0 0) 0) ≡ wrong)
-    × (firstGround (screenLossGrounds largestPool screenPool n 10001 10001 10001 10001 10001 (slices 0 0)) ≡ wrong)
+    × (firstGround (screenLossGrounds largestPool screenPool n 10001 10001 (refused ∷ []) 9 (slices 0 0)) ≡ wrong)
 
 pub screen-table : OnScreen 0 1 1 × OnScreen 1 0 2 × OnScreen 20 0 2 × OnScreen 21 11 11 × OnScreen 64 11 11 × OnScreen 65 1 1
-unfolding firstOf firstGround assetsGround probabilityGround correlationGround recoveryGround upperGround attachmentsGround storeGround entriesGround screenGround storePlaces someShorter fillGrounds entriesGrounds columnGrounds lossGrounds screened screenColumnGrounds screenLossGrounds poolGrounds trancheGrounds largestPool screenPool whole
+unfolding firstOf firstGround assetsGround probabilityGround correlationGround recoveryGround upperGround attachmentsGround storeGround entriesGround screenGround countGround storePlaces someShorter fillGrounds entriesGrounds columnGrounds lossGrounds screened screenColumnGrounds screenLossGrounds poolGrounds trancheGrounds tranchesGrounds countedGrounds tranchePlaces largestPool screenPool whole
 screen-table =
     ((refl, refl, refl, refl), (refl, refl, refl, refl), (refl, refl, refl, refl), (refl, refl, refl, refl), (refl, refl, refl, refl), (refl, refl, refl, refl))
 
 abbrev betaColumn : (n p ρ units : ℕ) → ℕ
 betaColumn n p ρ units = firstGround (betaColumnGrounds largestPool n p ρ units)
 
-abbrev betaLoss : (n p ρ R A B : ℕ) → ℕ
-betaLoss n p ρ R A B = firstGround (betaLossGrounds largestPool n p ρ R A B)
+abbrev betaLoss : (n p ρ count R A B : ℕ) → ℕ
+betaLoss n p ρ count R A B = firstGround (betaLossGrounds largestPool n p ρ (replicate 8 (tranche R A B)) count)
 
--- At the edges of 12 and of 8, and with all that follows wrong.
+-- At the edges of 12, of 8 and of 13, and with all that follows wrong.
 pub beta-table :
     (betaColumn 64 10000 9999 65 ≡ 0)
     × (betaColumn 64 10000 9999 64 ≡ 8)
@@ -121,15 +164,19 @@ pub beta-table :
     × (betaColumn 64 10001 10000 64 ≡ 2)
     × (betaColumn 0 10001 10000 0 ≡ 1)
     × (betaColumn 65 10001 10000 0 ≡ 1)
-    × (betaLoss 64 10000 9999 10000 9999 10000 ≡ 0)
-    × (betaLoss 64 10000 9999 10000 10000 10000 ≡ 6)
-    × (betaLoss 64 10000 9999 10000 10001 10001 ≡ 5)
-    × (betaLoss 64 10000 9999 10001 10001 10001 ≡ 4)
-    × (betaLoss 64 10000 10000 10000 9999 10000 ≡ 12)
-    × (betaLoss 64 10000 10000 10001 10001 10001 ≡ 12)
-    × (betaLoss 64 10000 10001 10001 10001 10001 ≡ 3)
-    × (betaLoss 64 10001 10000 10001 10001 10001 ≡ 2)
-    × (betaLoss 0 10001 10000 10001 10001 10001 ≡ 1)
-    × (betaLoss 65 10001 10000 10001 10001 10001 ≡ 1)
-unfolding firstOf firstGround assetsGround probabilityGround correlationGround recoveryGround upperGround attachmentsGround entriesGround fullCorrelationGround betaPoolGrounds betaColumnGrounds betaLossGrounds poolGrounds trancheGrounds largestPool whole
-beta-table = (refl, refl, refl, refl, refl, refl, refl, refl, refl, refl, refl, refl, refl, refl, refl, refl, refl, refl)
+    × (betaLoss 64 10000 9999 1 10000 9999 10000 ≡ 0)
+    × (betaLoss 64 10000 9999 1 10000 10000 10000 ≡ 6)
+    × (betaLoss 64 10000 9999 1 10000 10001 10001 ≡ 5)
+    × (betaLoss 64 10000 9999 1 10001 10001 10001 ≡ 4)
+    × (betaLoss 64 10000 9999 8 10000 9999 10000 ≡ 0)
+    × (betaLoss 64 10000 9999 9 10000 9999 10000 ≡ 13)
+    × (betaLoss 64 10000 9999 0 10001 10001 10001 ≡ 13)
+    × (betaLoss 64 10000 9999 9 10001 10001 10001 ≡ 13)
+    × (betaLoss 64 10000 10000 1 10000 9999 10000 ≡ 12)
+    × (betaLoss 64 10000 10000 9 10001 10001 10001 ≡ 12)
+    × (betaLoss 64 10000 10001 9 10001 10001 10001 ≡ 3)
+    × (betaLoss 64 10001 10000 9 10001 10001 10001 ≡ 2)
+    × (betaLoss 0 10001 10000 9 10001 10001 10001 ≡ 1)
+    × (betaLoss 65 10001 10000 9 10001 10001 10001 ≡ 1)
+unfolding firstOf firstGround assetsGround probabilityGround correlationGround recoveryGround upperGround attachmentsGround entriesGround fullCorrelationGround countGround betaPoolGrounds betaColumnGrounds betaLossGrounds poolGrounds trancheGrounds tranchesGrounds countedGrounds tranchePlaces largestPool whole
+beta-table = (refl, refl, refl, refl, refl, refl, refl, refl, refl, refl, refl, refl, refl, refl, refl, refl, refl, refl, refl, refl, refl, refl)

@@ -5,9 +5,12 @@ use mathlib.Core.Path.{_≡_}
 use mathlib.Core.Bool.{Bool, false, cond, not, _||_}
 use mathlib.Core.List.{List, [], _∷_, _++_}
 use lib.Dec.{eqb, ltb}
+use lib.ListN.{take}
 use Rattle.model.specs.Fraction.{whole}
 use Rattle.model.specs.Number.{triangle}
-use Rattle.steps.specs.Inputs.{InRange, TrancheInRange}
+use Rattle.steps.specs.declared.Tranche.{Tranche}
+use Rattle.steps.specs.Inputs.{InRange}
+use Rattle.steps.specs.Tranches.{tranchePlaces, TranchesInRange}
 use Rattle.grounds.specs.declared.Lengths.{Lengths}
 pub mod Laws
 
@@ -85,15 +88,28 @@ screenGround limit n = record { number = 11; applies = ltb limit n }
 unfoldable pub fullCorrelationGround : (ρ : ℕ) → Ground
 fullCorrelationGround ρ = record { number = 12; applies = eqb ρ whole }
 
+-- The count of tranches is 0, or above the places for them.
+unfoldable pub countGround : (count : ℕ) → Ground
+countGround count = record { number = 13; applies = eqb count 0 || ltb tranchePlaces count }
+
 -- ---- the grounds of each call, in order; `most` is its ceiling on the assets
 
 -- 1 to 3, on the pool.
 unfoldable pub poolGrounds : (most n p ρ : ℕ) → List Ground
 poolGrounds most n p ρ = assetsGround most n ∷ probabilityGround p ∷ correlationGround ρ ∷ []
 
--- 4 to 6, on the tranche.
+-- 4 to 6, on a tranche.
 unfoldable pub trancheGrounds : (R A B : ℕ) → List Ground
 trancheGrounds R A B = recoveryGround R ∷ upperGround B ∷ attachmentsGround A B ∷ []
+
+-- 4 to 6 of tranches, one tranche after the other.
+unfoldable pub tranchesGrounds : List Tranche → List Ground
+tranchesGrounds [] = []
+tranchesGrounds (t ∷ ts) = trancheGrounds (t .recovery) (t .lower) (t .upper) ++ tranchesGrounds ts
+
+-- 13, and 4 to 6 of each tranche within the count.
+unfoldable pub countedGrounds : (ts : List Tranche) (count : ℕ) → List Ground
+countedGrounds ts count = countGround count ∷ tranchesGrounds (take count ts)
 
 -- 1 to 3 and 7.
 unfoldable pub fillGrounds : (most n p ρ : ℕ) (lengths : List ℕ) → List Ground
@@ -115,9 +131,9 @@ columnGrounds = entriesGrounds 8
 unfoldable pub shiftGrounds : (most n p ρ : ℕ) (lengths : List ℕ) (shifts : ℕ) → List Ground
 shiftGrounds = entriesGrounds 10
 
--- 1 to 7.
-unfoldable pub lossGrounds : (most n p ρ R A B : ℕ) (lengths : List ℕ) → List Ground
-lossGrounds most n p ρ R A B lengths = poolGrounds most n p ρ ++ (trancheGrounds R A B ++ (storeGround n lengths ∷ []))
+-- 1 to 3, 13, 4 to 6 of each tranche within the count, and 7.
+unfoldable pub lossGrounds : (most n p ρ : ℕ) (ts : List Tranche) (count : ℕ) (lengths : List ℕ) → List Ground
+lossGrounds most n p ρ ts count lengths = poolGrounds most n p ρ ++ (countedGrounds ts count ++ (storeGround n lengths ∷ []))
 
 -- On the quote screen, which has a limit of its own: the same with 11 directly after the first.
 unfoldable pub screened : (limit n : ℕ) → List Ground → List Ground
@@ -128,9 +144,9 @@ screened limit n (g ∷ gs) = g ∷ screenGround limit n ∷ gs
 unfoldable pub screenColumnGrounds : (most limit n p ρ : ℕ) (lengths : List ℕ) (units : ℕ) → List Ground
 screenColumnGrounds most limit n p ρ lengths units = screened limit n (columnGrounds most n p ρ lengths units)
 
--- 1, 11, and 2 to 7.
-unfoldable pub screenLossGrounds : (most limit n p ρ R A B : ℕ) (lengths : List ℕ) → List Ground
-screenLossGrounds most limit n p ρ R A B lengths = screened limit n (lossGrounds most n p ρ R A B lengths)
+-- 1, 11, 2, 3, 13, 4 to 6 of each tranche within the count, and 7.
+unfoldable pub screenLossGrounds : (most limit n p ρ : ℕ) (ts : List Tranche) (count : ℕ) (lengths : List ℕ) → List Ground
+screenLossGrounds most limit n p ρ ts count lengths = screened limit n (lossGrounds most n p ρ ts count lengths)
 
 -- 1 to 3 and 12, on the pool of the beta-binomial, whose calls are lent no store.
 unfoldable pub betaPoolGrounds : (most n p ρ : ℕ) → List Ground
@@ -140,9 +156,9 @@ betaPoolGrounds most n p ρ = poolGrounds most n p ρ ++ (fullCorrelationGround 
 unfoldable pub betaColumnGrounds : (most n p ρ units : ℕ) → List Ground
 betaColumnGrounds most n p ρ units = betaPoolGrounds most n p ρ ++ (entriesGround 8 n units ∷ [])
 
--- 1 to 3, 12, and 4 to 6.
-unfoldable pub betaLossGrounds : (most n p ρ R A B : ℕ) → List Ground
-betaLossGrounds most n p ρ R A B = betaPoolGrounds most n p ρ ++ trancheGrounds R A B
+-- 1 to 3, 12, 13, and 4 to 6 of each tranche within the count.
+unfoldable pub betaLossGrounds : (most n p ρ : ℕ) (ts : List Tranche) (count : ℕ) → List Ground
+betaLossGrounds most n p ρ ts count = betaPoolGrounds most n p ρ ++ countedGrounds ts count
 
 -- The number that the screen's list gives, beside that of the library's list for the same inputs: 11 exactly where the pool has more than `limit` assets and
 -- ground 1 does not apply, and the library's otherwise.
@@ -175,9 +191,14 @@ pub record EntriesAccepted (most n p ρ : ℕ) (lengths : List ℕ) (places : �
   pub fill : FillAccepted most n p ρ lengths
   pub entries : n < places
 
-pub record LossAccepted (most n p ρ R A B : ℕ) (lengths : List ℕ) : Type 0 where
+pub record TranchesAccepted (ts : List Tranche) (count : ℕ) : Type 0 where
+  pub some : 0 < count
+  pub places : count ≤ tranchePlaces
+  pub tranches : TranchesInRange (take count ts)
+
+pub record LossAccepted (most n p ρ : ℕ) (ts : List Tranche) (count : ℕ) (lengths : List ℕ) : Type 0 where
   pub fill : FillAccepted most n p ρ lengths
-  pub tranche : TrancheInRange R A B
+  pub tranches : TranchesAccepted ts count
 
 pub record BetaPoolAccepted (most n p ρ : ℕ) : Type 0 where
   pub pool : PoolAccepted most n p ρ
@@ -187,6 +208,6 @@ pub record BetaColumnAccepted (most n p ρ places : ℕ) : Type 0 where
   pub pool : BetaPoolAccepted most n p ρ
   pub entries : n < places
 
-pub record BetaLossAccepted (most n p ρ R A B : ℕ) : Type 0 where
+pub record BetaLossAccepted (most n p ρ : ℕ) (ts : List Tranche) (count : ℕ) : Type 0 where
   pub pool : BetaPoolAccepted most n p ρ
-  pub tranche : TrancheInRange R A B
+  pub tranches : TranchesAccepted ts count

@@ -1,13 +1,16 @@
 // The grounds on which a call says no. Each function gives the number of the first that applies to the numbers it is given,
 // or 0 where none does. Ground 1 has the call's ceiling on the assets, and slices are given by their lengths.
 use model::WHOLE;
+use steps::TRANCHES;
+use steps::Tranche;
 ghost use mathlib.Core.Path.{_≡_};
 ghost use mathlib.Core.Bool.{cond};
 ghost use mathlib.Core.List.{[], _∷_};
+ghost use lib.ListN.{take};
 ghost use Rattle.model.specs.Number.{triangle};
 ghost use Rattle.grounds.specs.Grounds.{firstOf, firstGround, storePlaces, fourLengths, assetsGround, storeGround, entriesGround, screenGround};
 ghost use Rattle.grounds.specs.Grounds.{poolGrounds, trancheGrounds, fillGrounds, rowGrounds, entriesGrounds, columnGrounds, shiftGrounds, lossGrounds};
-ghost use Rattle.grounds.specs.Grounds.{betaPoolGrounds, betaColumnGrounds, betaLossGrounds};
+ghost use Rattle.grounds.specs.Grounds.{tranchesGrounds, countedGrounds, betaPoolGrounds, betaColumnGrounds, betaLossGrounds};
 
 // The lengths of the four slices of a store.
 pub struct Lengths {
@@ -139,25 +142,45 @@ pub fn shift_refusal(most: u32, n: u32, p: u32, rho: u32, lengths: Lengths, shif
     entries_refusal(10, most, n, p, rho, lengths, shifts)
 }
 
+// 4 to 6 of the first so many tranches, or of all where there are fewer, one tranche after the other.
+fn each_tranche_refusal(tranches: [Tranche; TRANCHES], count: u32) -> u32
+    ensures { λ r. ⌜ r ≡ firstGround (tranchesGrounds (take count tranches)) ⌝ }
+{
+    let mut refusal = 0u32;
+    for i in 0..TRANCHES as u32 {
+        if i < count {
+            let tranche = tranches[i as usize];
+            let of_tranche = tranche_refusal(tranche.recovery, tranche.lower, tranche.upper);
+            refusal = first(refusal, of_tranche);
+        }
+    }
+    refusal
+}
+
+// 13, and 4 to 6 of each tranche within the count.
+fn tranches_refusal(tranches: [Tranche; TRANCHES], count: u32) -> u32
+    ensures { λ r. ⌜ r ≡ firstGround (countedGrounds tranches count) ⌝ }
+{
+    let of_count = ground(13, (count == 0) | (count > TRANCHES as u32));
+    let of_tranches = each_tranche_refusal(tranches, count);
+    first(of_count, of_tranches)
+}
+
 pub fn loss_refusal(
     most: u32,
     n: u32,
     p: u32,
     rho: u32,
-    recovery: u32,
-    lower: u32,
-    upper: u32,
+    tranches: [Tranche; TRANCHES],
+    count: u32,
     lengths: Lengths,
 ) -> u32
-    ensures { λ r. ⌜ r ≡ firstGround (lossGrounds most n p rho recovery lower upper (fourLengths lengths)) ⌝ }
+    ensures { λ r. ⌜ r ≡ firstGround (lossGrounds most n p rho tranches count (fourLengths lengths)) ⌝ }
 {
-    first(
-        pool_refusal(most, n, p, rho),
-        first(
-            tranche_refusal(recovery, lower, upper),
-            store_refusal(n, lengths),
-        ),
-    )
+    let of_pool = pool_refusal(most, n, p, rho);
+    let of_tranches = tranches_refusal(tranches, count);
+    let of_store = store_refusal(n, lengths);
+    first(of_pool, first(of_tranches, of_store))
 }
 
 // 1 to 3 and 12.
@@ -182,13 +205,12 @@ pub fn beta_loss_refusal(
     n: u32,
     p: u32,
     rho: u32,
-    recovery: u32,
-    lower: u32,
-    upper: u32,
+    tranches: [Tranche; TRANCHES],
+    count: u32,
 ) -> u32
-    ensures { λ r. ⌜ r ≡ firstGround (betaLossGrounds most n p rho recovery lower upper) ⌝ }
+    ensures { λ r. ⌜ r ≡ firstGround (betaLossGrounds most n p rho tranches count) ⌝ }
 {
     let of_beta_pool = beta_pool_refusal(most, n, p, rho);
-    let of_tranche = tranche_refusal(recovery, lower, upper);
-    first(of_beta_pool, of_tranche)
+    let of_tranches = tranches_refusal(tranches, count);
+    first(of_beta_pool, of_tranches)
 }

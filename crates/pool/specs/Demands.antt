@@ -22,7 +22,6 @@ use Rattle.model.specs.Number.{sum, integerSum}
 use Rattle.model.specs.Fraction.{Fraction, Same, AtMost, Less, integer, plus, times}
 use Rattle.model.specs.Chances.{Chances, chance, tail, expectedLoss}
 use Rattle.model.specs.CorrelatedBinomial.{probability, defaults}
-use Rattle.model.specs.ClosedForm.{defaultsBy}
 use Rattle.model.specs.BetaBinomial.{betaProbability, betaDefaults}
 use Rattle.kept.specs.declared.Kept.{Kept}
 use Rattle.kept.specs.declared.Side.{Side}
@@ -35,15 +34,14 @@ use Rattle.steps.specs.CorrelatedBinomial.{keptDefaults}
 use Rattle.steps.specs.CorrelatedBinomial.Exponents.{PoolNumber}
 use Rattle.steps.specs.BetaBinomial.{keptEntry, keptBetaDefaults, BetaNumber}
 use Rattle.steps.specs.Inputs.{distanceFor}
+use Rattle.steps.specs.declared.Tranche.{Tranche}
 use Rattle.grounds.specs.Grounds.{Ground, firstGround, fillGrounds, rowGrounds, columnGrounds, shiftGrounds, lossGrounds, screenColumnGrounds, screenLossGrounds, Screens, betaColumnGrounds, betaLossGrounds}
 use Rattle.store.specs.declared.Pool.{Pool}
 use Rattle.store.specs.Stores.{Store, store}
-use Rattle.pool.specs.declared.Tranche.{Tranche}
-use Rattle.chances.specs.declared.Loss.{Loss}
-use Rattle.chances.specs.declared.Loss.the-variants.{Untouched, Faint, Shown}
-use Rattle.pool.specs.declared.Answer.{Answer}
-use Rattle.pool.specs.declared.Answer.the-variants.{Refused, Answered}
-use Rattle.pool.specs.Answers.{replyOf}
+use Rattle.expected_losses.specs.declared.Loss.{Loss}
+use Rattle.expected_losses.specs.declared.Loss.the-variants.{Untouched, Faint, Shown}
+use Rattle.expected_losses.specs.declared.Answer.{Answer}
+use Rattle.expected_losses.specs.Loss.{lossesIn}
 use Rattle.pool.specs.Calls.{columnRefusal, Prints, lossRefusal, Replies}
 pub mod Theorems
 
@@ -174,26 +172,31 @@ LossDemands low high Untouched = (low ≡ nought) × (high ≡ nought)
 LossDemands low high (Faint number) = FaintDemands low high number
 LossDemands low high (Shown bounds) = ShownDemands low high (bounds .low) (bounds .high)
 
--- A loss is answered, with the two bounds of step 6 and the exact loss.
-pub record AnswerDemands (parts : ℕ) (low high : Kept) (exact : Fraction) (answer : Answer) : Type 0 where
-  pub bounds : BoundDemands parts low high exact
-  pub loss : Loss
-  pub answer-is : answer ≡ Answered loss
-  pub says : LossDemands low high loss
+-- Demands 2 and 3 on the loss of a tranche, with its own recovery, of a row of chances in general: the two bounds of step 6 with the exact loss, and the loss that
+-- they give. `wide`: what step 6 divides by is above zero.
+module _ (parts : ℕ) (r : Chances) (c : Side → ℕ → Kept) (t : Tranche) where
+  abbrev boundOn : Side → 0 < (t .upper - t .lower) * r .assets → Kept
+  boundOn side wide = keptLoss side (r .assets) (c side) (t .recovery) (t .lower) (t .upper) wide
 
--- The exact expected loss of a tranche by the correlated binomial model, and by the beta-binomial.
-unfoldable pub exactLoss : (n p ρ R A B : ℕ) → 0 < (B - A) * n → Fraction
-unfolding defaults
-exactLoss n p ρ R A B wide = expectedLoss (defaults n p ρ) R A B wide
+  pub record TrancheDemands (loss : Loss) : Type 0 where
+    pub wide : 0 < (t .upper - t .lower) * r .assets
+    pub bounds : BoundDemands parts (boundOn Low wide) (boundOn High wide) (expectedLoss r (t .recovery) (t .lower) (t .upper) wide)
+    pub says : LossDemands (boundOn Low wide) (boundOn High wide) loss
 
-unfoldable pub betaExactLoss : (n p ρ R A B : ℕ) → 0 < (B - A) * n → Fraction
-unfolding betaDefaults defaultsBy
-betaExactLoss n p ρ R A B wide = expectedLoss (betaDefaults n p ρ) R A B wide
+-- The tranche at a place of those that are given, and the loss at a place of an answer.
+abbrev pub givenAt : List Tranche → ℕ → Tranche
+givenAt tranches i = getD tranches i (record { recovery = 0; lower = 0; upper = 0 })
 
--- The number of the refusal that is answered, 0 for a loss.
-abbrev pub refusalIn : Answer → ℕ
-refusalIn (Refused number) = number
-refusalIn (Answered loss) = 0
+abbrev pub lossAt : Answer → ℕ → Loss
+lossAt answer i = getD (answer .losses) i (record { loss = Untouched }) .loss
+
+-- What an answer holds at its eight places. Demands 2 and 3 are for the places within the count of an accepted call alone. A place past the count is untouched, and
+-- so are all eight on a refusal.
+pub record LossesDemands (parts : ℕ) (r : Chances) (c : Side → ℕ → Kept) (tranches : List Tranche) (count : ℕ) (answer : Answer) : Type 0 where
+  pub eight : length (answer .losses) ≡ 8
+  pub within : answer .refusal ≡ 0 → (i : ℕ) → i < 8 → i < count → TrancheDemands parts r c (givenAt tranches i) (lossAt answer i)
+  pub past : answer .refusal ≡ 0 → (i : ℕ) → i < 8 → count ≤ i → lossAt answer i ≡ Untouched
+  pub refused : (answer .refusal ≡ 0 → ⊥) → (i : ℕ) → i < 8 → lossAt answer i ≡ Untouched
 
 -- What steps 4 to 6 make for n assets, of a row of chances in general: bounds of the chances and of the tails; and no number that is made, those of the entries
 -- before and of the losses after included, has an exponent below −80,000 or above 100.
@@ -283,44 +286,31 @@ module _ (pool : Pool) where
         → Demand3Shifts n (lowTails ρ) (lowTails 0) (printedTail n (keptDefaults Low n p ρ)) (printedTail n (keptDefaults Low n p 0))
         (tail (defaults n p ρ)) (tail (defaults n p 0)) shifts′
 
-  module _ (tranche : Tranche) where
-    abbrev R : ℕ
-    R = pool .recovery
+  module _ (tranches : List Tranche) (count : ℕ) where
+    -- Of a loss call, by how far its bounds are apart and by its grounds.
+    pub record TranchesDemandsBy (parts : ℕ) (grounds : List Ground) (before after : Slices) (answer : Answer) : Type 0 where
+      pub one : Demand1 grounds (answer .refusal) before after
+      pub store : StoreDemands parts before after (answer .refusal)
+      pub losses : LossesDemands parts (defaults n p ρ) (λ side. keptDefaults side n p ρ) tranches count answer
 
-    abbrev A : ℕ
-    A = tranche .lower
+    abbrev pub TranchesDemands : (before after : Slices) (answer : Answer) → Type 0
+    TranchesDemands before = TranchesDemandsBy 100000 (lossGrounds 64 n p ρ tranches count (lengthsOf before)) before
 
-    abbrev B : ℕ
-    B = tranche .upper
-
-    -- Of a loss call, by how far its bounds are apart and by its grounds. `wide`: what step 6 divides by is above zero.
-    pub record TrancheDemandsBy (parts : ℕ) (grounds : List Ground) (before after : Slices) (answer : Answer) : Type 0 where
-      pub one : Demand1 grounds (refusalIn answer) before after
-      pub store : StoreDemands parts before after (refusalIn answer)
-      pub wide : refusalIn answer ≡ 0 → 0 < (B - A) * n
-      pub loss : refusalIn answer ≡ 0 → (wide : 0 < (B - A) * n)
-          → AnswerDemands parts (keptLoss Low n (keptDefaults Low n p ρ) R A B wide) (keptLoss High n (keptDefaults High n p ρ) R A B wide)
-          (exactLoss n p ρ R A B wide) answer
-
-    abbrev pub TrancheDemands : (before after : Slices) (answer : Answer) → Type 0
-    TrancheDemands before = TrancheDemandsBy 100000 (lossGrounds 64 n p ρ R A B (lengthsOf before)) before
-
-    -- The quote screen's loss, as its column.
-    pub record ScreenTrancheDemands (before after : Slices) (answer : Answer) : Type 0 where
-      pub own : TrancheDemandsBy 1000000 (screenLossGrounds 64 20 n p ρ R A B (lengthsOf before)) before after answer
-      pub screens : Screens 64 20 n (firstGround (lossGrounds 64 n p ρ R A B (lengthsOf before))) (refusalIn answer)
-      pub library : (refusalIn answer ≡ 11 → ⊥) → Replies lossRefusal distanceFor pool tranche (storeOf before) (storeOf after) (replyOf answer)
-      pub same : (refusalIn answer ≡ 11 → ⊥) → (after₂ : Slices) (answer₂ : Answer)
-          → Replies lossRefusal distanceFor pool tranche (storeOf before) (storeOf after₂) (replyOf answer₂) → (answer ≡ answer₂) × (after ≡ after₂)
+    -- The quote screen's losses, as its column.
+    pub record ScreenTranchesDemands (before after : Slices) (answer : Answer) : Type 0 where
+      pub own : TranchesDemandsBy 1000000 (screenLossGrounds 64 20 n p ρ tranches count (lengthsOf before)) before after answer
+      pub screens : Screens 64 20 n (firstGround (lossGrounds 64 n p ρ tranches count (lengthsOf before))) (answer .refusal)
+      pub library : (answer .refusal ≡ 11 → ⊥)
+          → Replies lossRefusal distanceFor pool tranches count (storeOf before) (storeOf after) (answer .refusal) (lossesIn (answer .losses))
+      pub same : (answer .refusal ≡ 11 → ⊥) → (after₂ : Slices) (answer₂ : Answer)
+          → Replies lossRefusal distanceFor pool tranches count (storeOf before) (storeOf after₂) (answer₂ .refusal) (lossesIn (answer₂ .losses))
+          → (answer ≡ answer₂) × (after ≡ after₂)
 
     -- The loss call of the beta-binomial model, which is lent no slice.
-    pub record BetaTrancheDemands (answer : Answer) : Type 0 where
-      pub number : refusalIn answer ≡ firstGround (betaLossGrounds 64 n p ρ R A B)
-      pub row : refusalIn answer ≡ 0 → BetaRowDemands 100000
-      pub wide : refusalIn answer ≡ 0 → 0 < (B - A) * n
-      pub loss : refusalIn answer ≡ 0 → (wide : 0 < (B - A) * n)
-          → AnswerDemands 100000 (keptLoss Low n (keptBetaDefaults Low n p ρ) R A B wide) (keptLoss High n (keptBetaDefaults High n p ρ) R A B wide)
-          (betaExactLoss n p ρ R A B wide) answer
+    pub record BetaTranchesDemands (answer : Answer) : Type 0 where
+      pub number : answer .refusal ≡ firstGround (betaLossGrounds 64 n p ρ tranches count)
+      pub row : answer .refusal ≡ 0 → BetaRowDemands 100000
+      pub losses : LossesDemands 100000 (betaDefaults n p ρ) (λ side. keptBetaDefaults side n p ρ) tranches count answer
 
 -- The slice is lent to be read, so that no call can write to it. Row k of a filled store has the significands of its bounds.
 pub record RowDemands (n k : ℕ) (significands part : List ℕ) (refusal : ℕ) : Type 0 where

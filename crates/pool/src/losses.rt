@@ -1,37 +1,40 @@
-// Works out the expected loss of a tranche.
+// Works out the expected losses of tranches.
 use super::Answer;
 use super::Pool;
+use super::TRANCHES;
 use super::Tranche;
 use grounds::Lengths;
 use steps::LARGEST_POOL;
 use store::fill_both;
 ghost use Rattle.steps.specs.Inputs.{distanceFor};
 ghost use Rattle.store.specs.Stores.{store};
-ghost use Rattle.pool.specs.Answers.{replyOf};
+ghost use Rattle.expected_losses.specs.Loss.{lossesIn};
 ghost use Rattle.pool.specs.Calls.{lossRefusal, Replies};
 
-// The expected loss of a tranche of the pool. The store is filled on the way.
-pub fn tranche_loss(
+// The expected losses of the first `count` tranches, each with its own recovery. The records past them are never looked at. The store
+// is filled on the way.
+pub fn tranche_losses(
     pool: Pool,
-    tranche: Tranche,
+    tranches: [Tranche; TRANCHES],
+    count: u32,
     low_significands: &mut [u32],
     high_significands: &mut [u32],
     low_exponents: &mut [i32],
     high_exponents: &mut [i32],
 ) -> Answer
-    ensures { λ r. ⌜ Replies lossRefusal distanceFor pool tranche
+    ensures { λ r. ⌜ Replies lossRefusal distanceFor pool tranches count
         (store (now («low_significands» .entry)) (now («high_significands» .entry)) (now («low_exponents» .entry)) (now («high_exponents» .entry)))
         (store (now («low_significands» .exit)) (now («high_significands» .exit)) (now («low_exponents» .exit)) (now («high_exponents» .exit)))
-        (replyOf r) ⌝ }
+        (r .refusal)
+        (lossesIn (r .losses)) ⌝ }
 {
     let refusal = grounds::loss_refusal(
         LARGEST_POOL,
         pool.assets,
         pool.probability,
         pool.correlation,
-        pool.recovery,
-        tranche.lower,
-        tranche.upper,
+        tranches,
+        count,
         Lengths {
             low_significands: low_significands.len(),
             high_significands: high_significands.len(),
@@ -40,7 +43,7 @@ pub fn tranche_loss(
         },
     );
     if refusal != 0 {
-        return Answer::Refused(refusal);
+        return expected_losses::refused(refusal);
     }
     let rows = fill_both(
         pool,
@@ -51,12 +54,5 @@ pub fn tranche_loss(
     );
     let low = rows.low;
     let high = rows.high;
-    Answer::Answered(chances::losses::tranche_loss(
-        pool.assets,
-        low,
-        high,
-        pool.recovery,
-        tranche.lower,
-        tranche.upper,
-    ))
+    expected_losses::tranche_losses(pool.assets, low, high, tranches, count)
 }

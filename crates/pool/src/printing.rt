@@ -8,7 +8,7 @@ ghost use Rattle.store.specs.Stores.{store};
 ghost use Rattle.pool.specs.Calls.{columnRefusal, Prints};
 
 // Writes rows 0 to n of the column, each the difference of two printed tails, and nothing behind them. The store is filled on the
-// way. Gives the number of a refusal, or 0. The recovery plays no part.
+// way. Gives the number of a refusal, or 0.
 pub fn column(
     pool: Pool,
     low_significands: &mut [u32],

@@ -36,7 +36,6 @@ fn column_reply(n: u32, p: u32, rho: u32) -> Reply
             assets: n,
             probability: p,
             correlation: rho,
-            recovery: 0,
         },
         &mut low_significands,
         &mut high_significands,

@@ -4,12 +4,12 @@ use Prim.Native.Nat.{ℕ}
 use mathlib.Core.Path.{_≡_}
 use mathlib.Core.List.{List}
 use lib.ListN.{length}
+use Rattle.steps.specs.declared.Tranche.{Tranche}
+use Rattle.steps.specs.Loss.{LossAnswer}
 use Rattle.steps.specs.Inputs.{largestPool, distanceFor, screenPool, screenDistance}
 use Rattle.grounds.specs.Grounds.{firstGround, screenColumnGrounds, screenLossGrounds, Screens}
 use Rattle.store.specs.declared.Pool.{Pool}
 use Rattle.store.specs.Stores.{Store, lengths}
-use Rattle.pool.specs.declared.Tranche.{Tranche}
-use Rattle.pool.specs.Answers.{LossReply, refusalOf}
 use Rattle.pool.specs.Calls.{columnRefusal, Prints, lossRefusal, Replies}
 pub mod Laws
 pub mod Demands
@@ -27,15 +27,14 @@ pub record ScreenPrints (pool : Pool) (before after : Store) (units units′ : L
   pub screens : Screens largestPool screenPool (pool .assets) (columnRefusal pool before units) refusal
   pub library : (refusal ≡ 11 → ⊥) → Prints columnRefusal distanceFor pool before after units units′ refusal
 
--- ---- loss
+-- ---- losses
 
-unfoldable pub screenLossRefusal : Pool → Tranche → Store → ℕ
-screenLossRefusal pool tranche s =
-    firstGround
-    (screenLossGrounds largestPool screenPool (pool .assets) (pool .probability) (pool .correlation) (pool .recovery) (tranche .lower) (tranche .upper) (lengths s))
+unfoldable pub screenLossRefusal : Pool → List Tranche → ℕ → Store → ℕ
+screenLossRefusal pool tranches count s =
+    firstGround (screenLossGrounds largestPool screenPool (pool .assets) (pool .probability) (pool .correlation) tranches count (lengths s))
 
 -- The same of a loss call.
-pub record ScreenReplies (pool : Pool) (tranche : Tranche) (before after : Store) (reply : LossReply) : Type 0 where
-  pub own : Replies screenLossRefusal screenDistance pool tranche before after reply
-  pub screens : Screens largestPool screenPool (pool .assets) (lossRefusal pool tranche before) (refusalOf reply)
-  pub library : (refusalOf reply ≡ 11 → ⊥) → Replies lossRefusal distanceFor pool tranche before after reply
+pub record ScreenReplies (pool : Pool) (tranches : List Tranche) (count : ℕ) (before after : Store) (refusal : ℕ) (losses : List LossAnswer) : Type 0 where
+  pub own : Replies screenLossRefusal screenDistance pool tranches count before after refusal losses
+  pub screens : Screens largestPool screenPool (pool .assets) (lossRefusal pool tranches count before) refusal
+  pub library : (refusal ≡ 11 → ⊥) → Replies lossRefusal distanceFor pool tranches count before after refusal losses

@@ -1,12 +1,13 @@
-// A quote screen for small pools: column and tranche loss as the library gives them, for at most 20 assets. Any numbers and slices of
+// A quote screen for small pools: column and tranche losses as the library gives them, for at most 20 assets. Any numbers and slices of
 // any length may be given. A call answers, or refuses by the number of the first ground that applies and leaves every slice
 // untouched.
 use pool::Answer;
 use pool::Pool;
+use pool::TRANCHES;
 use pool::Tranche;
 use steps::LARGEST_POOL;
 ghost use Rattle.store.specs.Stores.{store};
-ghost use Rattle.pool.specs.Answers.{replyOf};
+ghost use Rattle.expected_losses.specs.Loss.{lossesIn};
 ghost use Rattle.screen.specs.Calls.{ScreenPrints, ScreenReplies};
 
 // The most assets of a pool on the screen.
@@ -42,27 +43,30 @@ pub fn column(
     )
 }
 
-// The expected loss of a tranche of the pool, as `pool::tranche_loss` answers it. Refuses by 11 above 20 assets, directly after 1.
-pub fn tranche_loss(
+// The expected losses of tranches of the pool, as `pool::tranche_losses` answers them. Refuses by 11 above 20 assets, directly after 1.
+pub fn tranche_losses(
     pool: Pool,
-    tranche: Tranche,
+    tranches: [Tranche; TRANCHES],
+    count: u32,
     low_significands: &mut [u32],
     high_significands: &mut [u32],
     low_exponents: &mut [i32],
     high_exponents: &mut [i32],
 ) -> Answer
-    ensures { λ r. ⌜ ScreenReplies pool tranche
+    ensures { λ r. ⌜ ScreenReplies pool tranches count
         (store (now («low_significands» .entry)) (now («high_significands» .entry)) (now («low_exponents» .entry)) (now («high_exponents» .entry)))
         (store (now («low_significands» .exit)) (now («high_significands» .exit)) (now («low_exponents» .exit)) (now («high_exponents» .exit)))
-        (replyOf r) ⌝ }
+        (r .refusal)
+        (lossesIn (r .losses)) ⌝ }
 {
     let refusal = grounds::screen_refusal(LARGEST_POOL, SCREEN_POOL, pool.assets);
     if refusal != 0 {
-        return Answer::Refused(refusal);
+        return expected_losses::refused(refusal);
     }
-    pool::tranche_loss(
+    pool::tranche_losses(
         pool,
-        tranche,
+        tranches,
+        count,
         low_significands,
         high_significands,
         low_exponents,

@@ -12,7 +12,7 @@ ghost use Rattle.store.specs.Stores.{store};
 ghost use Rattle.shift.specs.Calls.{ListsShifts};
 
 // Writes for k from 0 to n the printed tail at k less that of the same pool at correlation 0, and nothing behind them. The store is
-// filled on the way, for the pool's own correlation. Gives the number of a refusal, or 0. The recovery plays no part.
+// filled on the way, for the pool's own correlation. Gives the number of a refusal, or 0.
 pub fn shift_list(
     pool: Pool,
     low_significands: &mut [u32],

@@ -5,6 +5,7 @@ pub mod Chances
 pub mod Column
 pub mod Shifts
 pub mod Loss
+pub mod Tranches
 pub mod Enclosure
 pub mod Exponents
 pub mod Numbers

@@ -3,7 +3,7 @@
 use Prim.Native.Nat.{ℕ, suc, _+_, _-_, _*_, _≤_, _<_}
 use mathlib.Core.Path.{_≡_}
 use mathlib.Core.List.{List}
-use lib.ListN.{getD}
+use lib.ListN.{length, getD}
 use lib.IntN.{ℤ, pos, natAbs}
 use Rattle.model.specs.Number.{sum, integerSum}
 use Rattle.model.specs.Fraction.{Fraction, Less, integer, plus, times, whole}
@@ -16,7 +16,9 @@ use Rattle.steps.specs.Column.{unitsOfCertainty, printedTail, exactUnits
 use Rattle.steps.specs.Shifts.{tailShift}
 use Rattle.steps.specs.Enclosure.{Enclosed}
 use Rattle.steps.specs.Exponents.{Ranged}
-use Rattle.steps.specs.Loss.{LossAnswer, lossAnswer, Says}
+use Rattle.steps.specs.declared.Tranche.{Tranche}
+use Rattle.steps.specs.Loss.{LossAnswer, untouched, lossAnswer, Says}
+use Rattle.steps.specs.Tranches.{trancheAt}
 pub mod Laws
 
 -- The bounds of chances, tails and tranche losses enclose the exact values and are at most one part in g apart.
@@ -63,3 +65,10 @@ module _ (g : ℕ) (r : Chances) (c : Side → ℕ → Kept) (R A B : ℕ) (wide
     pub answer-is : loss ≡ lossAnswer (lossOn Low) (lossOn High)
     pub enclosed : Enclosed g (lossOn Low) (lossOn High) (expectedLoss r R A B wide)
     pub says : Says g (lossOn Low) (lossOn High) (expectedLoss r R A B wide) loss
+
+-- What holds of the losses that stand at the places of tranches: of each tranche, with its own recovery, what holds of its loss; past them each is untouched.
+pub record HoldsLosses (g : ℕ) (r : Chances) (c : Side → ℕ → Kept) (ts : List Tranche) (losses : List LossAnswer) : Type 0 where
+  pub wide : (i : ℕ) → i < length ts → 0 < (trancheAt ts i .upper - trancheAt ts i .lower) * r .assets
+  pub loss : (i : ℕ) → i < length ts → (wide : 0 < (trancheAt ts i .upper - trancheAt ts i .lower) * r .assets)
+      → HoldsLoss g r c (trancheAt ts i .recovery) (trancheAt ts i .lower) (trancheAt ts i .upper) wide (getD losses i untouched)
+  pub past : (i : ℕ) → length ts ≤ i → getD losses i untouched ≡ untouched

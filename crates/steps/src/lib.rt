@@ -1,5 +1,15 @@
 // The steps that make the bounds of a pool's chances, tails and losses. It has definitions and laws, in specs/, and no function.
 
+// A tranche: what is recovered of a default, and the attachments, in basis points of the pool.
+pub struct Tranche {
+    pub recovery: u32,
+    pub lower: u32,
+    pub upper: u32,
+}
+
+// The places for tranches in a loss call, and for losses in its answer.
+pub const TRANCHES: usize = 8;
+
 // The most assets of a pool whose bounds are at most one part in 100,000 apart.
 pub const LARGEST_POOL: u32 = 64;
 

@@ -53,7 +53,7 @@ pub fn fill_both(
 }
 
 // Fills the store with rows 0 to n, row k from place k(k+1)/2 on, and writes nothing behind them. Gives the number of a refusal,
-// or 0. The recovery plays no part.
+// or 0.
 pub fn fill(
     pool: Pool,
     low_significands: &mut [u32],

@@ -9,10 +9,9 @@ pub use filling::fill_both;
 pub use reading::row;
 pub use reading::row_refusal;
 
-// A pool of equal assets. Default probability, correlation and recovery are in basis points.
+// A pool of equal assets. Default probability and correlation are in basis points.
 pub struct Pool {
     pub assets: u32,
     pub probability: u32,
     pub correlation: u32,
-    pub recovery: u32,
 }

@@ -1,9 +1,9 @@
 // Runs the calls of the beta-binomial at the edges of what they accept, beside those of Moody's model where the two have the same
 // chances, and on random pools, a line for each case. tools/trial_beta.py works the same lines out in exact whole numbers.
 use pool::Pool;
-use pool::Tranche;
 use trial_pool::Call;
 use trial_pool::Calls;
+use trial_pool::Library;
 use trial_pool::List;
 use trial_pool::ROWS;
 use trial_pool::list_corners;
@@ -13,27 +13,26 @@ use trial_pool::no_places;
 use trial_pool::pool_of;
 use trial_pool::random_cases;
 use trial_pool::run_ample;
+use trial_pool::tranche_of;
 ghost use Prim.Native.Nat.{_≤_};
 
 fn column(places: usize, assets: u32, probability: u32, correlation: u32) {
     run_ample(
-        Call::BetaColumn(places),
+        Call::Column(Library::BetaBinomial, places),
         pool_of(assets, probability, correlation),
     );
 }
 
-fn loss(lower: u32, upper: u32, pool: Pool) {
-    run_ample(Call::BetaLoss(Tranche { lower, upper }), pool);
+fn loss(recovery: u32, lower: u32, upper: u32, pool: Pool) {
+    run_ample(
+        Call::Loss(Library::BetaBinomial, tranche_of(recovery, lower, upper)),
+        pool,
+    );
 }
 
 // A pool of probability 1,000.
-fn pool(assets: u32, correlation: u32, recovery: u32) -> Pool {
-    Pool {
-        assets,
-        probability: 1_000,
-        correlation,
-        recovery,
-    }
+fn pool(assets: u32, correlation: u32) -> Pool {
+    pool_of(assets, 1_000, correlation)
 }
 
 // A column that fits, and one place short; then with places behind it.
@@ -47,31 +46,27 @@ fn lengths(assets: u32, correlation: u32, rows: usize)
 
 // One thing wrong at a time, with its edge.
 fn each_wrong(assets: u32, correlation: u32) {
-    loss(0, 10_000, pool_of(assets, 10_000, correlation));
-    loss(0, 10_000, pool_of(assets, 10_001, correlation));
-    loss(0, 10_000, pool(assets, correlation, 10_000));
-    loss(0, 10_000, pool(assets, correlation, 10_001));
-    loss(0, 10_001, pool(assets, correlation, 4_000));
-    loss(2_999, 3_000, pool(assets, correlation, 4_000));
-    loss(3_000, 3_000, pool(assets, correlation, 4_000));
-    loss(3_001, 3_000, pool(assets, correlation, 4_000));
-    loss(9_999, 10_000, pool(assets, correlation, 0));
-    loss(6_000, 10_000, pool(assets, correlation, 4_000));
-}
-
-fn wrong(assets: u32, probability: u32, correlation: u32) -> Pool {
-    Pool {
-        assets,
-        probability,
-        correlation,
-        recovery: 10_001,
-    }
+    loss(0, 0, 10_000, pool_of(assets, 10_000, correlation));
+    loss(0, 0, 10_000, pool_of(assets, 10_001, correlation));
+    loss(10_000, 0, 10_000, pool(assets, correlation));
+    loss(10_001, 0, 10_000, pool(assets, correlation));
+    loss(4_000, 0, 10_001, pool(assets, correlation));
+    loss(4_000, 2_999, 3_000, pool(assets, correlation));
+    loss(4_000, 3_000, 3_000, pool(assets, correlation));
+    loss(4_000, 3_001, 3_000, pool(assets, correlation));
+    loss(0, 9_999, 10_000, pool(assets, correlation));
+    loss(4_000, 6_000, 10_000, pool(assets, correlation));
 }
 
 // With no places and a tranche that 4, 5 and 6 refuse: the first ground in the order is given.
 fn all_wrong(assets: u32, probability: u32, correlation: u32) {
     column(0, assets, probability, correlation);
-    loss(10_001, 10_001, wrong(assets, probability, correlation));
+    loss(
+        10_001,
+        10_001,
+        10_001,
+        pool_of(assets, probability, correlation),
+    );
 }
 
 fn order() {
@@ -86,19 +81,19 @@ fn order() {
     all_wrong(0xffff_ffff, 0xffff_ffff, 0xffff_ffff);
     all_wrong(3, 0xffff_ffff, 0xffff_ffff);
     all_wrong(3, 1_000, 0xffff_ffff);
-    loss(3_000, 3_000, pool(3, 10_000, 4_000));
-    loss(0, 10_001, pool(3, 10_000, 4_000));
-    loss(0, 10_001, pool(3, 9_999, 10_001));
-    loss(10_001, 10_001, pool(3, 9_999, 4_000));
-    loss(3_000, 3_000, pool(3, 9_999, 10_001));
+    loss(4_000, 3_000, 3_000, pool(3, 10_000));
+    loss(4_000, 0, 10_001, pool(3, 10_000));
+    loss(10_001, 0, 10_001, pool(3, 9_999));
+    loss(4_000, 10_001, 10_001, pool(3, 9_999));
+    loss(10_001, 3_000, 3_000, pool(3, 9_999));
 }
 
 fn losses_of(assets: u32, probability: u32) {
-    loss(1_000, 3_000, pool_of(assets, probability, 0));
-    loss(1_000, 3_000, pool_of(assets, probability, 1));
-    loss(1_000, 3_000, pool_of(assets, probability, 9_999));
-    loss(1_000, 3_000, pool_of(assets, probability, 10_000));
-    loss(9_999, 10_000, pool_of(assets, probability, 1));
+    loss(0, 1_000, 3_000, pool_of(assets, probability, 0));
+    loss(0, 1_000, 3_000, pool_of(assets, probability, 1));
+    loss(0, 1_000, 3_000, pool_of(assets, probability, 9_999));
+    loss(0, 1_000, 3_000, pool_of(assets, probability, 10_000));
+    loss(0, 9_999, 10_000, pool_of(assets, probability, 1));
 }
 
 fn losses(assets: u32) {
@@ -108,57 +103,47 @@ fn losses(assets: u32) {
     losses_of(assets, 10_000);
 }
 
+fn both_columns(pool: Pool) {
+    run_ample(Call::Column(Library::Pool, ROWS), pool);
+    run_ample(Call::Column(Library::BetaBinomial, ROWS), pool);
+}
+
 // By both models.
 fn both(pool: Pool) {
-    let tranche = Tranche {
-        lower: 1_000,
-        upper: 3_000,
-    };
-    run_ample(Call::Column(ROWS), pool);
-    run_ample(Call::BetaColumn(ROWS), pool);
-    run_ample(Call::Loss(tranche), pool);
-    run_ample(Call::BetaLoss(tranche), pool);
+    let tranche = tranche_of(4_000, 1_000, 3_000);
+    both_columns(pool);
+    run_ample(Call::Loss(Library::Pool, tranche), pool);
+    run_ample(Call::Loss(Library::BetaBinomial, tranche), pool);
 }
 
 // One asset, two assets and no correlation: the same chances. Then others; full correlation is refused by the beta-binomial alone.
 fn models() {
-    both(pool(1, 3_000, 4_000));
-    both(pool(1, 9_999, 4_000));
-    both(pool(2, 1, 4_000));
-    both(pool(2, 3_000, 4_000));
-    both(pool(2, 9_999, 4_000));
-    both(pool(20, 0, 4_000));
-    both(pool(64, 0, 4_000));
-    both(pool(3, 3_000, 4_000));
-    both(pool(50, 3_000, 4_000));
-    both(pool(3, 10_000, 4_000));
-}
-
-fn columns(assets: u32) {
-    run_ample(Call::Column(ROWS), pool(assets, 1_000, 0));
-    run_ample(Call::BetaColumn(ROWS), pool(assets, 1_000, 0));
-}
-
-fn implied_pool(correlation: u32) -> Pool {
-    Pool {
-        assets: 50,
-        probability: 184,
-        correlation,
-        recovery: 3_500,
-    }
+    both(pool(1, 3_000));
+    both(pool(1, 9_999));
+    both(pool(2, 1));
+    both(pool(2, 3_000));
+    both(pool(2, 9_999));
+    both(pool(20, 0));
+    both(pool(64, 0));
+    both(pool(3, 3_000));
+    both(pool(50, 3_000));
+    both(pool(3, 10_000));
 }
 
 // One tranche, at the correlation of either model that its premium implies.
 fn implied(lower: u32, upper: u32, moody: u32, beta: u32) {
-    let tranche = Tranche { lower, upper };
-    run_ample(Call::Loss(tranche), implied_pool(moody));
-    run_ample(Call::BetaLoss(tranche), implied_pool(beta));
+    let tranche = tranche_of(3_500, lower, upper);
+    run_ample(Call::Loss(Library::Pool, tranche), pool_of(50, 184, moody));
+    run_ample(
+        Call::Loss(Library::BetaBinomial, tranche),
+        pool_of(50, 184, beta),
+    );
 }
 
 // The pool of Figures 3 to 5 of source document 000, and the correlations of its Table 2.
 fn printed_figures() {
-    columns(2);
-    columns(30);
+    both_columns(pool(2, 1_000));
+    both_columns(pool(30, 1_000));
     implied(300, 600, 127, 126);
     implied(600, 900, 316, 315);
     implied(900, 1_200, 616, 611);
@@ -166,16 +151,16 @@ fn printed_figures() {
 }
 
 fn edges() {
-    list_pools(List::BetaColumn);
-    list_corners(List::BetaColumn, 1);
-    list_corners(List::BetaColumn, 2);
-    list_corners(List::BetaColumn, 64);
-    no_places(Call::BetaColumn(0));
+    list_pools(List::Column(Library::BetaBinomial));
+    list_corners(List::Column(Library::BetaBinomial), 1);
+    list_corners(List::Column(Library::BetaBinomial), 2);
+    list_corners(List::Column(Library::BetaBinomial), 64);
+    no_places(Call::Column(Library::BetaBinomial, 0));
     lengths(1, 3_000, 2);
     lengths(3, 9_999, 4);
     lengths(3, 10_000, 4);
     lengths(64, 3_000, 65);
-    list_half_way(List::BetaColumn);
+    list_half_way(List::Column(Library::BetaBinomial));
     // The tail at 2 is half way between two units on the low side.
     column(ROWS, 3, 2_500, 5_000);
     order();

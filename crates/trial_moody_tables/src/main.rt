@@ -3,10 +3,11 @@
 // from which tools/trial_moody_tables.py makes the expected lines.
 use kept::Kept;
 use kept::Side;
-use pool::Answer;
 use pool::Loss;
 use pool::Pool;
+use pool::TRANCHES;
 use pool::Tranche;
+use pool::TrancheLoss;
 use trial_support::bits;
 use trial_support::magnitude;
 use trial_support::operand;
@@ -115,16 +116,6 @@ fn write_f64(x: f64) {
     write_percentage(nearest(significand_of(word), shift_of(word), 4), 4);
 }
 
-fn write_loss(answer: Answer) {
-    if let Answer::Answered(loss) = answer {
-        if let Loss::Shown(bounds) = loss {
-            write_f64(bounds.low);
-            write_f64(bounds.high);
-        }
-    }
-    write(b"\n");
-}
-
 fn write_heading(table: u64, assets: u32, correlation: u32) {
     write(b"table ");
     write_number(table);
@@ -151,30 +142,55 @@ fn column(table: u64, assets: u32, correlation: u32, count: usize)
     }
 }
 
-// An expected loss of Table 4.
-fn loss(assets: u32, probability: u32, correlation: u32, lower: u32, upper: u32) {
+// A tranche of Table 4.
+fn tranche_of(lower: u32, upper: u32) -> Tranche {
+    Tranche {
+        recovery: 3_000,
+        lower,
+        upper,
+    }
+}
+
+fn write_loss(pool: Pool, tranche: Tranche, place: TrancheLoss) {
+    write_heading(4, pool.assets, pool.correlation);
+    write(b" tranche");
+    write_field(tranche.lower);
+    write_field(tranche.upper);
+    let loss = place.loss;
+    if let Loss::Shown(bounds) = loss {
+        write_f64(bounds.low);
+        write_f64(bounds.high);
+    }
+    write(b"\n");
+}
+
+// The expected losses of two tranches of Table 4, one on top of the other, by one call.
+fn losses(assets: u32, probability: u32, correlation: u32, lower: u32, upper: u32) {
     let mut low_significands = [0u32; STORE];
     let mut high_significands = [0u32; STORE];
     let mut low_exponents = [0i32; STORE];
     let mut high_exponents = [0i32; STORE];
-    let answer = pool::tranche_loss(
-        Pool {
-            assets,
-            probability,
-            correlation,
-            recovery: 3_000,
-        },
-        Tranche { lower, upper },
+    let pool = Pool {
+        assets,
+        probability,
+        correlation,
+    };
+    let senior = tranche_of(upper, 10_000);
+    let junior = tranche_of(lower, upper);
+    let mut tranches = [junior; TRANCHES];
+    tranches[0] = senior;
+    let answer = pool::tranche_losses(
+        pool,
+        tranches,
+        2,
         &mut low_significands,
         &mut high_significands,
         &mut low_exponents,
         &mut high_exponents,
     );
-    write_heading(4, assets, correlation);
-    write(b" tranche");
-    write_field(lower);
-    write_field(upper);
-    write_loss(answer);
+    let losses = answer.losses;
+    write_loss(pool, senior, losses[0]);
+    write_loss(pool, junior, losses[1]);
 }
 
 fn main() {
@@ -185,12 +201,8 @@ fn main() {
     column(2, 13, 250, 14);
     // Table 2 does not print the chance that all 19 default.
     column(2, 19, 500, 19);
-    loss(13, 500, 250, 2_100, 10_000);
-    loss(13, 500, 250, 1_500, 2_100);
-    loss(19, 500, 500, 2_100, 10_000);
-    loss(19, 500, 500, 1_500, 2_100);
-    loss(15, 1_000, 625, 4_050, 10_000);
-    loss(15, 1_000, 625, 1_750, 4_050);
-    loss(36, 1_000, 1_000, 4_050, 10_000);
-    loss(36, 1_000, 1_000, 1_750, 4_050);
+    losses(13, 500, 250, 1_500, 2_100);
+    losses(19, 500, 500, 1_500, 2_100);
+    losses(15, 1_000, 625, 1_750, 4_050);
+    losses(36, 1_000, 1_000, 1_750, 4_050);
 }

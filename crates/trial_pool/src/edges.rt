@@ -1,6 +1,7 @@
 // Cases at the edges of what every call accepts, and of those that leave a list of entries 0 to n in a slice.
 use crate::Call;
 use crate::Lengths;
+use crate::Library;
 use crate::ROWS;
 use crate::pool_of;
 use crate::run;
@@ -55,19 +56,15 @@ pub fn over_others(call: Call, pool: Pool) {
 
 // A call that leaves a list of entries 0 to n in a slice.
 pub enum List {
-    Column,
+    Column(Library),
     Shifts,
-    ScreenColumn,
-    BetaColumn,
 }
 
 // That call, with so many places for the list.
 fn listing(list: List, places: usize) -> Call {
     match list {
-        List::Column => Call::Column(places),
+        List::Column(library) => Call::Column(library, places),
         List::Shifts => Call::Shifts(places),
-        List::ScreenColumn => Call::ScreenColumn(places),
-        List::BetaColumn => Call::BetaColumn(places),
     }
 }
 

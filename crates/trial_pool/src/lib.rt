@@ -2,6 +2,7 @@
 // slices are the first places of the arrays, so that a write behind them is seen.
 mod edges;
 mod random;
+mod tranches;
 
 pub use edges::List;
 pub use edges::exact_lengths;
@@ -14,14 +15,22 @@ pub use edges::lists;
 pub use edges::longer_lengths;
 pub use edges::no_places;
 pub use edges::over_others;
-use pool::Answer;
-use pool::Loss;
 use pool::Pool;
 use pool::Tranche;
 pub use random::Calls;
 pub use random::random_cases;
+pub use tranches::Records;
+pub use tranches::Tranches;
+use tranches::answer_losses;
+pub use tranches::array_of;
+use tranches::one;
+pub use tranches::refused_tranche;
+pub use tranches::repeated;
+pub use tranches::tranche_of;
+pub use tranches::with;
+use tranches::write_tranche;
+use tranches::write_tranches;
 use trial_support::write;
-use trial_support::write_bits;
 use trial_support::write_checksum;
 use trial_support::write_field;
 use trial_support::write_integer;
@@ -39,27 +48,29 @@ const INTEGER_MARK: i32 = 1_000_007;
 // How many places are lent: of the low and the high significands, then of the low and the high exponents.
 pub struct Lengths(pub usize, pub usize, pub usize, pub usize);
 
+// The libraries that have a column and a loss call. Those of the beta-binomial are lent no store.
+pub enum Library {
+    Pool,
+    Screen,
+    BetaBinomial,
+}
+
 // A call, with what it takes beside the pool and the store: the number of a row, how many places of a column or of a shift list
-// are lent, a tranche. Those of the beta-binomial are lent no store.
+// are lent, one tranche, several tranches.
 pub enum Call {
     Fill,
     Row(u32),
-    Column(usize),
+    Column(Library, usize),
     Shifts(usize),
-    Loss(Tranche),
-    ScreenColumn(usize),
-    ScreenLoss(Tranche),
-    BetaColumn(usize),
-    BetaLoss(Tranche),
+    Loss(Library, Tranche),
+    Losses(Library, Tranches),
 }
 
-// A pool for the calls that take no recovery.
 pub fn pool_of(assets: u32, probability: u32, correlation: u32) -> Pool {
     Pool {
         assets,
         probability,
         correlation,
-        recovery: 0,
     }
 }
 
@@ -74,13 +85,12 @@ fn write_pool(pool: Pool) {
     write_field(pool.correlation);
 }
 
-fn write_loss_call(pool: Pool, tranche: Tranche) {
-    write(b"loss");
-    write_pool(pool);
-    write_field(pool.recovery);
-    write(b" tranche");
-    write_field(tranche.lower);
-    write_field(tranche.upper);
+fn write_library(library: Library) {
+    match library {
+        Library::Pool => write(b""),
+        Library::Screen => write(b"screen "),
+        Library::BetaBinomial => write(b"beta "),
+    }
 }
 
 fn write_call(call: Call, pool: Pool) {
@@ -93,7 +103,8 @@ fn write_call(call: Call, pool: Pool) {
             write(b"row");
             write_field(k);
         }
-        Call::Column(_) => {
+        Call::Column(library, _) => {
+            write_library(library);
             write(b"column");
             write_pool(pool);
         }
@@ -101,22 +112,17 @@ fn write_call(call: Call, pool: Pool) {
             write(b"shifts");
             write_pool(pool);
         }
-        Call::Loss(tranche) => write_loss_call(pool, tranche),
-        Call::ScreenColumn(_) => {
-            write(b"screen column");
+        Call::Loss(library, tranche) => {
+            write_library(library);
+            write(b"loss");
             write_pool(pool);
+            write_tranche(tranche);
         }
-        Call::ScreenLoss(tranche) => {
-            write(b"screen ");
-            write_loss_call(pool, tranche);
-        }
-        Call::BetaColumn(_) => {
-            write(b"beta column");
+        Call::Losses(library, tranches) => {
+            write_library(library);
+            write(b"losses");
             write_pool(pool);
-        }
-        Call::BetaLoss(tranche) => {
-            write(b"beta ");
-            write_loss_call(pool, tranche);
+            write_tranches(tranches);
         }
     }
 }
@@ -129,17 +135,33 @@ fn write_store_lengths(lengths: Lengths) {
     write_length(lengths.3);
 }
 
-fn write_lengths(call: Call, lengths: Lengths) {
+fn lends_store(library: Library) -> bool {
+    match library {
+        Library::BetaBinomial => false,
+        _ => true,
+    }
+}
+
+// Whether a call writes to a store.
+fn writes_store(call: Call) -> bool {
     match call {
-        Call::BetaColumn(_) => write(b" length"),
-        Call::BetaLoss(_) => write(b""),
-        _ => write_store_lengths(lengths),
+        Call::Row(_) => false,
+        Call::Column(library, _) => lends_store(library),
+        Call::Loss(library, _) => lends_store(library),
+        Call::Losses(library, _) => lends_store(library),
+        _ => true,
+    }
+}
+
+fn write_lengths(call: Call, lengths: Lengths) {
+    if writes_store(call) {
+        write_store_lengths(lengths);
+    } else if let Call::Column(_, _) = call {
+        write(b" length");
     }
     match call {
-        Call::Column(places) => write_length(places),
+        Call::Column(_, places) => write_length(places),
         Call::Shifts(places) => write_length(places),
-        Call::ScreenColumn(places) => write_length(places),
-        Call::BetaColumn(places) => write_length(places),
         _ => write(b""),
     }
 }
@@ -161,16 +183,6 @@ fn write_given(other: Pool, call: Call, pool: Pool, lengths: Lengths) {
     } else {
         write_call(call, pool);
         write_lengths(call, lengths);
-    }
-}
-
-// Whether a call writes to a store.
-fn writes_store(call: Call) -> bool {
-    match call {
-        Call::Row(_) => false,
-        Call::BetaColumn(_) => false,
-        Call::BetaLoss(_) => false,
-        _ => true,
     }
 }
 
@@ -261,32 +273,8 @@ fn write_shifts(pool: Pool, refusal: u32, shifts: &[i32]) {
     write_checksum(&[], shifts);
 }
 
-fn write_loss(loss: Loss) {
-    match loss {
-        Loss::Untouched => write(b" untouched"),
-        Loss::Faint(x) => {
-            write(b" faint ");
-            write_bits(x);
-        }
-        Loss::Shown(bounds) => {
-            write(b" shown ");
-            write_bits(bounds.low);
-            write(b" ");
-            write_bits(bounds.high);
-        }
-    }
-}
-
-fn write_answer(answer: Answer) {
-    match answer {
-        Answer::Refused(refusal) => write_refusal(refusal),
-        Answer::Answered(loss) => write_loss(loss),
-    }
-}
-
-// The library's column, or else the screen's.
 fn column(
-    screen: bool,
+    library: Library,
     pool: Pool,
     low_significands: &mut [u32],
     high_significands: &mut [u32],
@@ -294,29 +282,29 @@ fn column(
     high_exponents: &mut [i32],
     units: &mut [u32],
 ) -> u32 {
-    if screen {
-        screen::column(
+    match library {
+        Library::Pool => pool::column(
             pool,
             low_significands,
             high_significands,
             low_exponents,
             high_exponents,
             units,
-        )
-    } else {
-        pool::column(
+        ),
+        Library::Screen => screen::column(
             pool,
             low_significands,
             high_significands,
             low_exponents,
             high_exponents,
             units,
-        )
+        ),
+        Library::BetaBinomial => beta_binomial::column(pool, units),
     }
 }
 
 fn answer_column(
-    screen: bool,
+    library: Library,
     pool: Pool,
     length: usize,
     low_significands: &mut [u32],
@@ -326,7 +314,7 @@ fn answer_column(
 ) {
     let mut units = [MARK; ROWS];
     let refusal = column(
-        screen,
+        library,
         pool,
         low_significands,
         high_significands,
@@ -334,12 +322,6 @@ fn answer_column(
         high_exponents,
         first_naturals(&mut units, length),
     );
-    write_column(pool, refusal, &units);
-}
-
-fn answer_beta_column(pool: Pool, length: usize) {
-    let mut units = [MARK; ROWS];
-    let refusal = beta_binomial::column(pool, first_naturals(&mut units, length));
     write_column(pool, refusal, &units);
 }
 
@@ -363,6 +345,47 @@ fn answer_shifts(
     write_shifts(pool, refusal, &shifts);
 }
 
+// Makes a call that each library has, and writes what it answers.
+fn answer_library(
+    call: Call,
+    pool: Pool,
+    low_significands: &mut [u32],
+    high_significands: &mut [u32],
+    low_exponents: &mut [i32],
+    high_exponents: &mut [i32],
+) {
+    match call {
+        Call::Column(library, length) => answer_column(
+            library,
+            pool,
+            length,
+            low_significands,
+            high_significands,
+            low_exponents,
+            high_exponents,
+        ),
+        Call::Loss(library, tranche) => answer_losses(
+            library,
+            pool,
+            one(tranche),
+            low_significands,
+            high_significands,
+            low_exponents,
+            high_exponents,
+        ),
+        Call::Losses(library, tranches) => answer_losses(
+            library,
+            pool,
+            tranches,
+            low_significands,
+            high_significands,
+            low_exponents,
+            high_exponents,
+        ),
+        _ => write(b""),
+    }
+}
+
 // Makes a call and writes what it answers.
 fn answer(
     call: Call,
@@ -381,15 +404,6 @@ fn answer(
             high_exponents,
         )),
         Call::Row(k) => write_row(pool::row(pool.assets, k, low_significands)),
-        Call::Column(length) => answer_column(
-            false,
-            pool,
-            length,
-            low_significands,
-            high_significands,
-            low_exponents,
-            high_exponents,
-        ),
         Call::Shifts(length) => answer_shifts(
             pool,
             length,
@@ -398,33 +412,14 @@ fn answer(
             low_exponents,
             high_exponents,
         ),
-        Call::Loss(tranche) => write_answer(pool::tranche_loss(
+        _ => answer_library(
+            call,
             pool,
-            tranche,
-            low_significands,
-            high_significands,
-            low_exponents,
-            high_exponents,
-        )),
-        Call::ScreenColumn(length) => answer_column(
-            true,
-            pool,
-            length,
             low_significands,
             high_significands,
             low_exponents,
             high_exponents,
         ),
-        Call::ScreenLoss(tranche) => write_answer(screen::tranche_loss(
-            pool,
-            tranche,
-            low_significands,
-            high_significands,
-            low_exponents,
-            high_exponents,
-        )),
-        Call::BetaColumn(length) => answer_beta_column(pool, length),
-        Call::BetaLoss(tranche) => write_answer(beta_binomial::tranche_loss(pool, tranche)),
     }
 }
 

@@ -1,18 +1,32 @@
 // Random pools and tranches.
 use crate::Call;
+use crate::Library;
 use crate::ROWS;
+use crate::Records;
+use crate::Tranches;
 use crate::run_ample;
+use crate::tranche_of;
 use pool::Pool;
 use pool::Tranche;
 use trial_support::next;
 
 // Which calls are run: fill, column and loss; the shift list; column and loss of pools of 1 to 20 assets, by the library and on the
-// screen; column and loss of the beta-binomial.
+// screen; column and loss of the beta-binomial; the losses of several tranches by each library.
 pub enum Calls {
     Library,
     Shifts,
     Screen,
     Beta,
+    Losses,
+}
+
+// The random word so many words later.
+fn after(word: u64, count: u32) -> u64 {
+    let mut later = word;
+    for _ in 0..count {
+        later = next(later);
+    }
+    later
 }
 
 // Basis points: one in eight above 10,000, three in eight at 0, 1 or 10,000, and small numbers more often than by chance.
@@ -63,83 +77,117 @@ fn assets(word: u64) -> u32 {
 fn random_pool(word: u64) -> Pool {
     let assets = assets(word);
     let second = next(word);
-    let third = next(second);
-    let recovery = basis_points(next(third));
     if assets > 55 && second % 2 == 0 {
         return Pool {
             assets,
             probability: 1,
             correlation: 0,
-            recovery,
         };
     }
     Pool {
         assets,
         probability: basis_points(second),
-        correlation: basis_points(third),
-        recovery,
+        correlation: basis_points(next(second)),
     }
 }
 
 // Of 1 to 20 assets.
 fn small_pool(word: u64) -> Pool {
     let second = next(word);
-    let third = next(second);
     Pool {
         assets: (1 + (word >> 8) % 20) as u32,
         probability: basis_points(second),
-        correlation: basis_points(third),
-        recovery: basis_points(next(third)),
+        correlation: basis_points(next(second)),
     }
 }
 
 // Every second the narrowest below the largest loss, if that is not 0; else two attachments that do not depend on each other.
-fn random_tranche(word: u64, recovery: u32) -> Tranche {
-    if word % 2 == 0 {
+fn random_tranche(word: u64) -> Tranche {
+    let recovery = basis_points(word);
+    let second = next(word);
+    if second % 2 == 0 {
         if recovery < 10_000 {
-            return Tranche {
-                lower: 9_999 - recovery,
-                upper: 10_000 - recovery,
-            };
+            return tranche_of(recovery, 9_999 - recovery, 10_000 - recovery);
         }
     }
-    let second = next(word);
-    Tranche {
-        lower: basis_points(second),
-        upper: basis_points(next(second)),
+    let third = next(second);
+    tranche_of(recovery, basis_points(third), basis_points(next(third)))
+}
+
+// Fifteen in sixteen brought into range.
+fn likely_tranche(word: u64) -> Tranche {
+    let tranche = random_tranche(word);
+    if word >> 60 == 0 {
+        return tranche;
+    }
+    let recovery = tranche.recovery % 10_001;
+    let upper = tranche.upper % 10_000;
+    if upper == 0 {
+        return tranche_of(recovery, tranche.lower % 10_000, 10_000);
+    }
+    tranche_of(recovery, tranche.lower % upper, upper)
+}
+
+fn random_records(word: u64) -> Records {
+    Records(
+        likely_tranche(word),
+        likely_tranche(after(word, 4)),
+        likely_tranche(after(word, 8)),
+        likely_tranche(after(word, 12)),
+        likely_tranche(after(word, 16)),
+        likely_tranche(after(word, 20)),
+        likely_tranche(after(word, 24)),
+        likely_tranche(after(word, 28)),
+    )
+}
+
+// From 0 to 10 of them.
+fn random_tranches(word: u64) -> Tranches {
+    Tranches {
+        count: ((word >> 8) % 11) as u32,
+        records: random_records(next(word)),
     }
 }
 
-fn run_calls(calls: Calls, pool: Pool, tranche: Tranche) {
+fn run_losses(pool: Pool, small: Pool, tranches: Tranches) {
+    run_ample(Call::Losses(Library::Pool, tranches), pool);
+    run_ample(Call::Losses(Library::Screen, tranches), small);
+    run_ample(Call::Losses(Library::BetaBinomial, tranches), pool);
+}
+
+fn run_calls(calls: Calls, word: u64) {
+    let pool = random_pool(word);
+    let small = small_pool(word);
+    let fourth = after(word, 3);
+    let tranche = random_tranche(fourth);
     match calls {
         Calls::Library => {
             run_ample(Call::Fill, pool);
-            run_ample(Call::Column(ROWS), pool);
-            run_ample(Call::Loss(tranche), pool);
+            run_ample(Call::Column(Library::Pool, ROWS), pool);
+            run_ample(Call::Loss(Library::Pool, tranche), pool);
         }
         Calls::Shifts => run_ample(Call::Shifts(ROWS), pool),
         Calls::Screen => {
-            run_ample(Call::Column(ROWS), pool);
-            run_ample(Call::ScreenColumn(ROWS), pool);
-            run_ample(Call::Loss(tranche), pool);
-            run_ample(Call::ScreenLoss(tranche), pool);
+            run_ample(Call::Column(Library::Pool, ROWS), small);
+            run_ample(Call::Column(Library::Screen, ROWS), small);
+            run_ample(Call::Loss(Library::Pool, tranche), small);
+            run_ample(Call::Loss(Library::Screen, tranche), small);
         }
         Calls::Beta => {
-            run_ample(Call::BetaColumn(ROWS), pool);
-            run_ample(Call::BetaLoss(tranche), pool);
+            run_ample(Call::Column(Library::BetaBinomial, ROWS), pool);
+            run_ample(Call::Loss(Library::BetaBinomial, tranche), pool);
         }
+        Calls::Losses => run_losses(pool, small, random_tranches(fourth)),
     }
 }
 
-// Runs the calls on a random pool and tranche, and gives the word of the next.
+// Runs the calls on a random pool and tranche or tranches, and gives the word of the next.
 fn case(word: u64, calls: Calls) -> u64 {
-    let other = next(next(next(next(word))));
-    let pool = match calls {
-        Calls::Screen => small_pool(word),
-        _ => random_pool(word),
-    };
-    run_calls(calls, pool, random_tranche(other, pool.recovery));
-    next(next(next(other)))
+    run_calls(calls, word);
+    match calls {
+        Calls::Losses => after(word, 36),
+        _ => after(word, 7),
+    }
 }
 
 pub fn random_cases(count: u32, calls: Calls) {

@@ -1,9 +1,9 @@
 // Runs each call at the edges of what it accepts, and where a last digit decides, a line for each case. tools/trial_pool_cases.py
 // works the same lines out in exact whole numbers.
 use pool::Pool;
-use pool::Tranche;
 use trial_pool::Call;
 use trial_pool::Lengths;
+use trial_pool::Library;
 use trial_pool::List;
 use trial_pool::ROWS;
 use trial_pool::exact_lengths;
@@ -17,6 +17,7 @@ use trial_pool::row;
 use trial_pool::run;
 use trial_pool::run_ample;
 use trial_pool::run_over;
+use trial_pool::tranche_of;
 ghost use Prim.Native.Nat.{_≤_};
 
 // ---- the fill
@@ -121,13 +122,10 @@ fn loss_pool(
     lower: u32,
     upper: u32,
 ) {
-    let pool = Pool {
-        assets,
-        probability,
-        correlation,
-        recovery,
-    };
-    run_ample(Call::Loss(Tranche { lower, upper }), pool);
+    run_ample(
+        Call::Loss(Library::Pool, tranche_of(recovery, lower, upper)),
+        pool_of(assets, probability, correlation),
+    );
 }
 
 // A tranche of the pool with 3 assets, probability 1,000 and correlation 3,000.
@@ -172,28 +170,15 @@ fn loss_pools() {
     loss_pool(3, 1_000, 10_001, 10_001, 0, 10_000);
 }
 
-// A pool with recovery 4,000.
-fn recovering(assets: u32) -> Pool {
-    Pool {
-        assets,
-        probability: 1_000,
-        correlation: 3_000,
-        recovery: 4_000,
-    }
-}
-
-// The loss of a tranche up to 3,000.
+// The loss of a tranche with recovery 4,000 up to 3,000.
 fn loss_from(lower: u32) -> Call {
-    Call::Loss(Tranche {
-        lower,
-        upper: 3_000,
-    })
+    Call::Loss(Library::Pool, tranche_of(4_000, lower, 3_000))
 }
 
 fn loss_lengths(assets: u32, exact: usize, short: usize)
     requires { ⌜ exact ≤ 2145 ⌝ }
 {
-    let pool = recovering(assets);
+    let pool = pool_of(assets, 1_000, 3_000);
     exact_lengths(loss_from(1_000), pool, exact, short);
     longer_lengths(loss_from(1_000), pool, exact);
     run(loss_from(3_000), pool, Lengths(short, short, short, short));
@@ -205,15 +190,16 @@ fn losses() {
     loss_lengths(1, 3, 2);
     loss_lengths(3, 10, 9);
     loss_lengths(64, 2_145, 2_144);
-    over_others(loss_from(1_000), recovering(3));
-    run_over(pool_of(10, 500, 250), loss_from(3_000), recovering(3));
+    let three = pool_of(3, 1_000, 3_000);
+    over_others(loss_from(1_000), three);
+    run_over(pool_of(10, 500, 250), loss_from(3_000), three);
 }
 
 // ---- the last digits
 
 fn column_ample(assets: u32, probability: u32, correlation: u32) {
     run_ample(
-        Call::Column(ROWS),
+        Call::Column(Library::Pool, ROWS),
         pool_of(assets, probability, correlation),
     );
 }
@@ -283,7 +269,7 @@ fn main() {
     fills();
     rows();
     filled_rows();
-    lists(List::Column);
+    lists(List::Column(Library::Pool));
     losses();
     digits();
     edges();

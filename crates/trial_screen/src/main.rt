@@ -1,10 +1,10 @@
 // Runs the calls of the quote screen around its ceiling, at the edges of what they accept, and on random pools of up to 20 assets
 // beside the library's calls, a line for each case. tools/trial_screen.py works the same lines out in exact whole numbers.
 use pool::Pool;
-use pool::Tranche;
 use trial_pool::Call;
 use trial_pool::Calls;
 use trial_pool::Lengths;
+use trial_pool::Library;
 use trial_pool::List;
 use trial_pool::ROWS;
 use trial_pool::exact_lengths;
@@ -17,26 +17,23 @@ use trial_pool::pool_of;
 use trial_pool::random_cases;
 use trial_pool::run;
 use trial_pool::run_ample;
+use trial_pool::tranche_of;
+
+fn column_of(places: usize) -> Call {
+    Call::Column(Library::Screen, places)
+}
 
 fn column(assets: u32, probability: u32, correlation: u32) {
-    run_ample(
-        Call::ScreenColumn(ROWS),
-        pool_of(assets, probability, correlation),
-    );
+    run_ample(column_of(ROWS), pool_of(assets, probability, correlation));
 }
 
 // A pool of probability 1,000 and correlation 3,000.
-fn pool(assets: u32, recovery: u32) -> Pool {
-    Pool {
-        assets,
-        probability: 1_000,
-        correlation: 3_000,
-        recovery,
-    }
+fn pool(assets: u32) -> Pool {
+    pool_of(assets, 1_000, 3_000)
 }
 
-fn loss(lower: u32, upper: u32) -> Call {
-    Call::ScreenLoss(Tranche { lower, upper })
+fn loss(recovery: u32, lower: u32, upper: u32) -> Call {
+    Call::Loss(Library::Screen, tranche_of(recovery, lower, upper))
 }
 
 fn none() -> Lengths {
@@ -45,71 +42,53 @@ fn none() -> Lengths {
 
 // Nothing wrong, then everything.
 fn around(assets: u32) {
-    let wrong = Pool {
-        assets,
-        probability: 10_001,
-        correlation: 10_001,
-        recovery: 10_001,
-    };
+    let wrong = pool_of(assets, 10_001, 10_001);
     column(assets, 1_000, 3_000);
-    run_ample(loss(1_000, 3_000), pool(assets, 4_000));
-    run(Call::ScreenColumn(0), wrong, none());
-    run(loss(10_001, 10_001), wrong, none());
+    run_ample(loss(4_000, 1_000, 3_000), pool(assets));
+    run(column_of(0), wrong, none());
+    run(loss(10_001, 10_001, 10_001), wrong, none());
 }
 
 // One thing wrong at a time.
 fn each_wrong(assets: u32) {
     column(assets, 10_001, 3_000);
     column(assets, 1_000, 10_001);
-    run(Call::ScreenColumn(ROWS), pool(assets, 0), none());
-    run_ample(Call::ScreenColumn(0), pool(assets, 0));
-    run_ample(loss(0, 10_000), pool_of(assets, 10_001, 3_000));
-    run_ample(loss(0, 10_000), pool_of(assets, 1_000, 10_001));
-    run_ample(loss(0, 10_000), pool(assets, 10_001));
-    run_ample(loss(0, 10_001), pool(assets, 4_000));
-    run_ample(loss(3_000, 3_000), pool(assets, 4_000));
-    run(loss(0, 10_000), pool(assets, 4_000), none());
+    run(column_of(ROWS), pool(assets), none());
+    run_ample(column_of(0), pool(assets));
+    run_ample(loss(0, 0, 10_000), pool_of(assets, 10_001, 3_000));
+    run_ample(loss(0, 0, 10_000), pool_of(assets, 1_000, 10_001));
+    run_ample(loss(10_001, 0, 10_000), pool(assets));
+    run_ample(loss(4_000, 0, 10_001), pool(assets));
+    run_ample(loss(4_000, 3_000, 3_000), pool(assets));
+    run(loss(4_000, 0, 10_000), pool(assets), none());
 }
 
 // Two things wrong: the first ground in the order is given.
 fn two_wrong(assets: u32) {
     column(assets, 10_001, 10_001);
-    run(
-        Call::ScreenColumn(ROWS),
-        pool_of(assets, 1_000, 10_001),
-        none(),
-    );
-    run(Call::ScreenColumn(0), pool(assets, 0), none());
-    run_ample(loss(0, 10_000), pool_of(assets, 10_001, 10_001));
-    run_ample(
-        loss(0, 10_000),
-        Pool {
-            assets,
-            probability: 1_000,
-            correlation: 10_001,
-            recovery: 10_001,
-        },
-    );
-    run_ample(loss(0, 10_001), pool(assets, 10_001));
-    run_ample(loss(10_001, 10_001), pool(assets, 4_000));
-    run(loss(3_000, 3_000), pool(assets, 4_000), none());
+    run(column_of(ROWS), pool_of(assets, 1_000, 10_001), none());
+    run(column_of(0), pool(assets), none());
+    run_ample(loss(0, 0, 10_000), pool_of(assets, 10_001, 10_001));
+    run_ample(loss(10_001, 0, 10_000), pool_of(assets, 1_000, 10_001));
+    run_ample(loss(10_001, 0, 10_001), pool(assets));
+    run_ample(loss(4_000, 10_001, 10_001), pool(assets));
+    run(loss(4_000, 3_000, 3_000), pool(assets), none());
 }
 
 // A tranche at the edges of its grounds.
 fn tranches(assets: u32) {
-    run_ample(loss(0, 10_000), pool(assets, 10_000));
-    run_ample(loss(9_999, 10_000), pool(assets, 0));
-    run_ample(loss(2_999, 3_000), pool(assets, 4_000));
-    run_ample(loss(6_000, 10_000), pool(assets, 4_000));
+    run_ample(loss(10_000, 0, 10_000), pool(assets));
+    run_ample(loss(0, 9_999, 10_000), pool(assets));
+    run_ample(loss(4_000, 2_999, 3_000), pool(assets));
+    run_ample(loss(4_000, 6_000, 10_000), pool(assets));
 }
 
 // Also on the stores of other pools, which a refusal leaves.
 fn losses(assets: u32, exact: usize, short: usize) {
-    let pool = pool(assets, 4_000);
     tranches(assets);
-    later_ends(loss(1_000, 3_000), assets);
-    exact_lengths(loss(1_000, 3_000), pool, exact, short);
-    over_others(loss(1_000, 3_000), pool);
+    later_ends(loss(0, 1_000, 3_000), assets);
+    exact_lengths(loss(4_000, 1_000, 3_000), pool(assets), exact, short);
+    over_others(loss(4_000, 1_000, 3_000), pool(assets));
 }
 
 fn edges() {
@@ -125,13 +104,13 @@ fn edges() {
     each_wrong(64);
     each_wrong(65);
     two_wrong(20);
-    lists(List::ScreenColumn);
-    list_lengths(List::ScreenColumn, 20, 231, 230, 21);
-    list_lengths(List::ScreenColumn, 21, 253, 252, 22);
+    lists(List::Column(Library::Screen));
+    list_lengths(List::Column(Library::Screen), 20, 231, 230, 21);
+    list_lengths(List::Column(Library::Screen), 21, 253, 252, 22);
     losses(1, 3, 2);
     losses(20, 231, 230);
     losses(21, 253, 252);
-    longer_lengths(loss(1_000, 3_000), pool(20, 4_000), 231);
+    longer_lengths(loss(4_000, 1_000, 3_000), pool(20), 231);
 }
 
 fn main() {

@@ -1,20 +1,21 @@
 -- The contracts of the calls of the beta-binomial model imply what is demanded of them.
 -- Assumes nothing.
 use Prim.Native.Nat.{ℕ}
-use mathlib.Core.Path.{sym, _∙_}
+use mathlib.Core.Path.{_≡_}
 use mathlib.Core.List.{List}
 use lib.Dec.{lit≤}
+use lib.ListN.{length}
 use Rattle.model.specs.ClosedForm.{defaultsBy}
 use Rattle.model.specs.BetaBinomial.{betaDefaults}
 use Rattle.steps.specs.Column.{tenths}
+use Rattle.steps.specs.declared.Tranche.{Tranche}
 use Rattle.steps.specs.Inputs.{largestPool, distanceFor, tenthsFor}
 use Rattle.working.specs.Slices.Laws.{entries-kept, entries-later}
+use Rattle.expected_losses.specs.declared.Answer.{Answer}
+use Rattle.expected_losses.specs.Loss.{lossesIn}
 use Rattle.store.specs.declared.Pool.{Pool}
-use Rattle.pool.specs.declared.Tranche.{Tranche}
-use Rattle.pool.specs.declared.Answer.{Answer}
-use Rattle.pool.specs.Answers.{replyOf}
-use Rattle.pool.specs.Demands.{oneAndAHalf, betaExactLoss, BetaRowDemands, BetaColumnDemands, BetaTrancheDemands}
-use Rattle.pool.specs.Demands.Theorems.{bounds-meet, steps-meet, rows-meet, answer-meets, number-is}
+use Rattle.pool.specs.Demands.{oneAndAHalf, BetaRowDemands, BetaColumnDemands, BetaTranchesDemands}
+use Rattle.pool.specs.Demands.Theorems.{bounds-meet, steps-meet, rows-meet, losses-meet}
 use Rattle.beta_binomial.specs.Calls.{HoldsBeta, betaColumnRefusal, BetaPrints, betaLossRefusal, BetaReplies}
 
 row-meets : {pool : Pool} → HoldsBeta (pool .assets) (pool .probability) (pool .correlation) → BetaRowDemands pool 100000
@@ -32,13 +33,11 @@ beta-column-meets {pool} {units} prints =
       column = λ none. rows-meet _ (record { cross = lit≤ tt }) (prints .prints .holds-column none);
     }
 
-pub beta-tranche-meets : {pool : Pool} {tranche : Tranche} (answer : Answer) → BetaReplies pool tranche (replyOf answer) → BetaTrancheDemands pool tranche answer
-unfolding betaLossRefusal largestPool distanceFor betaDefaults defaultsBy betaExactLoss
-beta-tranche-meets answer replies =
-    let is = number-is answer ∙ replies .replies .refusal-is in
-    record {
-      number = is;
-      row = λ none. row-meets (replies .holds (sym is ∙ none));
-      wide = λ none. replies .replies .wide (sym is ∙ none);
-      loss = λ none wide. answer-meets wide answer (replies .replies .holds-loss (sym is ∙ none) wide);
-    }
+pub beta-tranches-meet : {pool : Pool} {tranches : List Tranche} {count : ℕ} (answer : Answer) → length tranches ≡ 8
+    → BetaReplies pool tranches count (answer .refusal) (lossesIn (answer .losses)) → BetaTranchesDemands pool tranches count answer
+unfolding betaLossRefusal largestPool distanceFor
+beta-tranches-meet answer eight replies = record {
+  number = replies .refusal-is;
+  row = λ none. row-meets (replies .holds none);
+  losses = losses-meet answer eight (replies .replies);
+}

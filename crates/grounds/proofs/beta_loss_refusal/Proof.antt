@@ -1,7 +1,7 @@
 -- `beta_loss_refusal` meets its contract.
 -- Assumes nothing.
 use borrow.Author.Needs.{needs}
-use Rattle.grounds.specs.Grounds.{trancheGrounds, betaPoolGrounds, betaLossGrounds}
+use Rattle.grounds.specs.Grounds.{countedGrounds, betaPoolGrounds, betaLossGrounds}
 use Rattle.grounds.specs.Grounds.Laws.{first-of-both}
 use Rattle.grounds.proofs.beta_loss_refusal.Statement.{statement}
 use Rattle.grounds.proofs.beta_loss_refusal.Tie as tie
@@ -10,7 +10,7 @@ returns : tie.Need-returns
 unfolding betaLossGrounds
 returns c =
     let parts = c .before .before in
-    first-of-both (betaPoolGrounds _ _ _ _) (trancheGrounds _ _ _) (c .first .ensures) (parts .beta-pool-refusal .ensures) (c .before .tranche-refusal .ensures)
+    first-of-both (betaPoolGrounds _ _ _ _) (countedGrounds _ _) (c .first .ensures) (parts .beta-pool-refusal .ensures) (c .before .tranches-refusal .ensures)
 
 pub beta-loss-refusal-spec : {M : Type 1} → statement M
 beta-loss-refusal-spec = tie.close (tie.spec (λ c κs. search needs) (λ c κs. search needs) (λ c κs. search needs) returns)

@@ -2,7 +2,7 @@
 -- Assumes nothing.
 use mathlib.Core.List.{[], _∷_, _++_}
 use borrow.Author.Needs.{needs}
-use Rattle.grounds.specs.Grounds.{storeGround, poolGrounds, trancheGrounds, lossGrounds}
+use Rattle.grounds.specs.Grounds.{storeGround, poolGrounds, countedGrounds, lossGrounds}
 use Rattle.grounds.specs.Grounds.Laws.{first-of-both}
 use Rattle.grounds.proofs.loss_refusal.Statement.{statement}
 use Rattle.grounds.proofs.loss_refusal.Tie as tie
@@ -11,8 +11,8 @@ returns : tie.Need-returns
 unfolding lossGrounds
 returns c =
     let parts = c .before .before .before in
-    first-of-both (poolGrounds _ _ _ _) (trancheGrounds _ _ _ ++ (storeGround _ _ ∷ [])) (c .first2 .ensures) (parts .before .pool-refusal .ensures)
-    (first-of-both (trancheGrounds _ _ _) (storeGround _ _ ∷ []) (c .before .first .ensures) (parts .tranche-refusal .ensures) (c .before .before .store-refusal .ensures))
+    first-of-both (poolGrounds _ _ _ _) (countedGrounds _ _ ++ (storeGround _ _ ∷ [])) (c .first2 .ensures) (parts .before .pool-refusal .ensures)
+    (first-of-both (countedGrounds _ _) (storeGround _ _ ∷ []) (c .before .first .ensures) (parts .tranches-refusal .ensures) (c .before .before .store-refusal .ensures))
 
 pub loss-refusal-spec : {M : Type 1} → statement M
 loss-refusal-spec =

@@ -1,22 +1,27 @@
--- The first ground of two lists, what the inputs of an accepted call are, when a column is refused as its pool is, and when the screen and the beta-binomial
--- refuse as the library.
+-- The first ground of two lists, what the inputs of an accepted call are, that tranches past the count play no part, when a column is refused as its pool is,
+-- and when the screen and the beta-binomial refuse as the library.
 -- Assumes nothing.
 use Prim.Native.Nat.{ℕ, zero, suc, _+_, _*_, _≤_, _<_}
 use mathlib.Core.Path.{_≡_, refl, sym, ap, subst, _∙_}
-use mathlib.Core.Bool.{Bool, true, false, cond, _&&_, _||_, true≢false}
+use mathlib.Core.Bool.{Bool, true, false, cond, not, _&&_, _||_, true≢false}
 use mathlib.Core.List.{List, [], _∷_, _++_}
 use native.Mathlib.Nat.{le-trans, mul-le-mul}
 use native.Mathlib.Omega.{arith}
 use borrow.Author.Tests.{ltb-false, eqb-false, not-false, ltb-true, lt-ltb, le-ltb, ne-eqb}
-use lib.Dec.{T, eqb, ltb, ltb→lt, lit<}
+use lib.Dec.{T, eqb, ltb, leb, ltb→lt, leb→le, lit<}
+use lib.ListN.{length, take, drop, length-take, drop-of-length-le}
+use lib.Seq.{drop-cons, getD-take}
 use Rattle.model.specs.Fraction.{whole}
 use Rattle.model.specs.Number.{triangle}
 use Rattle.model.specs.Number.Laws.{triangle-closed, triangle-mono}
+use Rattle.steps.specs.declared.Tranche.{Tranche}
 use Rattle.steps.specs.Inputs.{TrancheInRange}
+use Rattle.steps.specs.Tranches.{tranchePlaces, trancheAt}
 use Rattle.grounds.specs.Grounds.{Ground, firstOf, firstGround, storePlaces, someShorter, assetsGround, probabilityGround, correlationGround}
-use Rattle.grounds.specs.Grounds.{recoveryGround, upperGround, attachmentsGround, storeGround, entriesGround, rowGround, screenGround, fullCorrelationGround, poolGrounds, trancheGrounds}
-use Rattle.grounds.specs.Grounds.{fillGrounds, rowGrounds, entriesGrounds, columnGrounds, lossGrounds, screened, Screens, betaPoolGrounds, betaColumnGrounds, betaLossGrounds}
-use Rattle.grounds.specs.Grounds.{PoolAccepted, EachAtLeast, FillAccepted, RowAccepted, EntriesAccepted, LossAccepted}
+use Rattle.grounds.specs.Grounds.{recoveryGround, upperGround, attachmentsGround, storeGround, entriesGround, rowGround, screenGround, fullCorrelationGround}
+use Rattle.grounds.specs.Grounds.{countGround, poolGrounds, trancheGrounds, tranchesGrounds, countedGrounds, fillGrounds, rowGrounds, entriesGrounds, columnGrounds, lossGrounds}
+use Rattle.grounds.specs.Grounds.{screened, Screens, betaPoolGrounds, betaColumnGrounds, betaLossGrounds}
+use Rattle.grounds.specs.Grounds.{PoolAccepted, EachAtLeast, FillAccepted, RowAccepted, EntriesAccepted, TranchesAccepted, LossAccepted}
 use Rattle.grounds.specs.Grounds.{BetaPoolAccepted, BetaColumnAccepted, BetaLossAccepted}
 
 pub store-places : (n : ℕ) → storePlaces n ≡ triangle (suc n)
@@ -53,6 +58,11 @@ unfolding firstOf
 neither-of zero b e = (refl, e)
 neither-of (suc a) b e = absurd (omega arith)
 
+first-assoc : (a b c : ℕ) → firstOf (firstOf a b) c ≡ firstOf a (firstOf b c)
+unfolding firstOf
+first-assoc zero b c = refl
+first-assoc (suc a) b c = refl
+
 pub or-false : (t : Bool) → (t || false) ≡ t
 or-false true = refl
 or-false false = refl
@@ -62,11 +72,9 @@ or-false false = refl
 first-append : (a b : List Ground) → firstOf (firstGround a) (firstGround b) ≡ firstGround (a ++ b)
 unfolding firstGround firstOf
 first-append [] b = refl
-first-append (g ∷ gs) b = regrouped (cond (g .applies) (g .number) 0) ∙ ap (firstOf (cond (g .applies) (g .number) 0)) (first-append gs b)
-  where
-    regrouped : (x : ℕ) → firstOf (firstOf x (firstGround gs)) (firstGround b) ≡ firstOf x (firstOf (firstGround gs) (firstGround b))
-    regrouped zero = refl
-    regrouped (suc x) = refl
+first-append (g ∷ gs) b =
+    let own = cond (g .applies) (g .number) 0 in
+    first-assoc own (firstGround gs) (firstGround b) ∙ ap (firstOf own) (first-append gs b)
 
 -- What a function answers that takes the first of two refusals.
 pub first-of-both : {r x y : ℕ} (a b : List Ground) → r ≡ firstOf x y → x ≡ firstGround a → y ≡ firstGround b → r ≡ firstGround (a ++ b)
@@ -76,10 +84,10 @@ first-of-both a b is first rest = rw (is, first, rest) (first-append a b)
 none-of-both : {r : ℕ} (a b : List Ground) → r ≡ firstGround (a ++ b) → r ≡ 0 → (firstGround a ≡ 0) × (firstGround b ≡ 0)
 none-of-both a b is none = neither-of (firstGround a) (firstGround b) (first-append a b ∙ sym is ∙ none)
 
--- Every ground has a number above 0.
-abbrev numbered : List Ground → Bool
-numbered [] = true
-numbered (g ∷ gs) = ltb 0 (g .number) && numbered gs
+-- Every ground has a number that meets a test.
+abbrev numbersMeet : (ℕ → Bool) → List Ground → Bool
+numbersMeet test [] = true
+numbersMeet test (g ∷ gs) = test (g .number) && numbersMeet test gs
 
 abbrev NoneApplies : List Ground → Type 0
 NoneApplies [] = Unit {0}
@@ -89,37 +97,30 @@ both-hold : (s t : Bool) → T (s && t) → T s × T t
 both-hold true t h = (tt, h)
 both-hold false t h = absurd h
 
-none-applies : {r : ℕ} (gs : List Ground) → T (numbered gs) → r ≡ firstGround gs → r ≡ 0 → NoneApplies gs
+none-applies : {r : ℕ} (gs : List Ground) → T (numbersMeet (ltb 0) gs) → r ≡ firstGround gs → r ≡ 0 → NoneApplies gs
 unfolding firstGround
 none-applies [] h is none = tt
 none-applies (g ∷ gs) h is none =
     let parts = neither-of (cond (g .applies) (g .number) 0) (firstGround gs) (sym is ∙ none) in
-    let above = both-hold (ltb 0 (g .number)) (numbered gs) h in
+    let above = both-hold (ltb 0 (g .number)) (numbersMeet (ltb 0) gs) h in
     (off (g .applies) (ltb→lt 0 (g .number) (above .0)) (parts .0), none-applies gs (above .1) refl (parts .1))
   where
     off : {m : ℕ} (t : Bool) → 0 < m → cond t m 0 ≡ 0 → t ≡ false
     off true above e = absurd (omega arith)
     off false above e = refl
 
--- Every ground has a number below m.
-abbrev numberedBelow : ℕ → List Ground → Bool
-numberedBelow m [] = true
-numberedBelow m (g ∷ gs) = ltb (g .number) m && numberedBelow m gs
-
-first-below : {m : ℕ} (gs : List Ground) → 0 < m → T (numberedBelow m gs) → firstGround gs < m
+-- What 0 and the number of every ground meet, that of the first which applies meets.
+first-meets : (test : ℕ → Bool) (gs : List Ground) → T (test 0) → T (numbersMeet test gs) → T (test (firstGround gs))
 unfolding firstGround firstOf
-first-below [] above low = above
-first-below {m} (g ∷ gs) above low =
-    let parts = both-hold (ltb (g .number) m) (numberedBelow m gs) low in
-    number-of (g .applies) (ltb→lt (g .number) m (parts .0)) (first-below gs above (parts .1))
+first-meets test [] none each = none
+first-meets test (g ∷ gs) none each =
+    let parts = both-hold (test (g .number)) (numbersMeet test gs) each in
+    either (g .applies) (g .number) (firstGround gs) (parts .0) (first-meets test gs none (parts .1))
   where
-    first-of : (x : ℕ) {y : ℕ} → x < m → y < m → firstOf x y < m
-    first-of zero a b = b
-    first-of (suc x) a b = a
-
-    number-of : (t : Bool) {x y : ℕ} → x < m → y < m → firstOf (cond t x 0) y < m
-    number-of true a b = first-of _ a b
-    number-of false a b = b
+    either : (t : Bool) (x y : ℕ) → T (test x) → T (test y) → T (test (firstOf (cond t x 0) y))
+    either true zero y a b = b
+    either true (suc x) y a b = a
+    either false x y a b = b
 
 -- ---- what the inputs of an accepted call are, from the number that its grounds give
 
@@ -193,15 +194,35 @@ entries-accepted number most n p ρ lengths places above is none =
     let parts = none-of-both (fillGrounds most n p ρ lengths) (entriesGround number n places ∷ []) is none in
     record { fill = fill-accepted most n p ρ lengths refl (parts .0); entries = room-accepted number n places above refl (parts .1) }
 
-pub loss-accepted : {r : ℕ} (most n p ρ R A B : ℕ) (lengths : List ℕ) → r ≡ firstGround (lossGrounds most n p ρ R A B lengths) → r ≡ 0
-    → LossAccepted most n p ρ R A B lengths
+each-in-range : (ts : List Tranche) → firstGround (tranchesGrounds ts) ≡ 0 → (i : ℕ) → i < length ts
+    → TrancheInRange (trancheAt ts i .recovery) (trancheAt ts i .lower) (trancheAt ts i .upper)
+unfolding tranchesGrounds
+each-in-range [] none i l = absurd (omega arith)
+each-in-range (t ∷ ts) none zero l =
+    tranche-accepted (t .recovery) (t .lower) (t .upper) refl (none-of-both (trancheGrounds _ _ _) (tranchesGrounds ts) refl none .0)
+each-in-range (t ∷ ts) none (suc i) l = each-in-range ts (none-of-both (trancheGrounds _ _ _) (tranchesGrounds ts) refl none .1) i (omega arith)
+
+pub tranches-accepted : {r : ℕ} (ts : List Tranche) (count : ℕ) → r ≡ firstGround (countedGrounds ts count) → r ≡ 0 → TranchesAccepted ts count
+unfolding countedGrounds countGround
+tranches-accepted ts count is none =
+    let parts = none-of-both (countGround count ∷ []) (tranchesGrounds (take count ts)) is none in
+    let counted = neither (eqb count 0) (ltb tranchePlaces count) (none-applies (countGround count ∷ []) tt refl (parts .0) .0) in
+    let not-zero = eqb-false count 0 (counted .0) in
+    record {
+      some = omega arith;
+      places = ltb-false tranchePlaces count (counted .1);
+      tranches = record { at = each-in-range (take count ts) (parts .1) };
+    }
+
+pub loss-accepted : {r : ℕ} (most n p ρ : ℕ) (ts : List Tranche) (count : ℕ) (lengths : List ℕ)
+    → r ≡ firstGround (lossGrounds most n p ρ ts count lengths) → r ≡ 0 → LossAccepted most n p ρ ts count lengths
 unfolding lossGrounds
-loss-accepted most n p ρ R A B lengths is none =
-    let parts = none-of-both (poolGrounds most n p ρ) (trancheGrounds R A B ++ (storeGround n lengths ∷ [])) is none in
-    let rest = none-of-both (trancheGrounds R A B) (storeGround n lengths ∷ []) refl (parts .1) in
+loss-accepted most n p ρ ts count lengths is none =
+    let parts = none-of-both (poolGrounds most n p ρ) (countedGrounds ts count ++ (storeGround n lengths ∷ [])) is none in
+    let rest = none-of-both (countedGrounds ts count) (storeGround n lengths ∷ []) refl (parts .1) in
     record {
       fill = record { pool = pool-accepted most n p ρ refl (parts .0); store = store-accepted n lengths refl (rest .1) };
-      tranche = tranche-accepted R A B refl (rest .0);
+      tranches = tranches-accepted ts count refl (rest .0);
     }
 
 pub beta-pool-accepted : {r : ℕ} (most n p ρ : ℕ) → r ≡ firstGround (betaPoolGrounds most n p ρ) → r ≡ 0 → BetaPoolAccepted most n p ρ
@@ -219,19 +240,72 @@ beta-column-accepted most n p ρ units is none =
     let parts = none-of-both (betaPoolGrounds most n p ρ) (entriesGround 8 n units ∷ []) is none in
     record { pool = beta-pool-accepted most n p ρ refl (parts .0); entries = room-accepted 8 n units (lit< tt) refl (parts .1) }
 
-pub beta-loss-accepted : {r : ℕ} (most n p ρ R A B : ℕ) → r ≡ firstGround (betaLossGrounds most n p ρ R A B) → r ≡ 0
-    → BetaLossAccepted most n p ρ R A B
+pub beta-loss-accepted : {r : ℕ} (most n p ρ : ℕ) (ts : List Tranche) (count : ℕ) → r ≡ firstGround (betaLossGrounds most n p ρ ts count) → r ≡ 0
+    → BetaLossAccepted most n p ρ ts count
 unfolding betaLossGrounds
-beta-loss-accepted most n p ρ R A B is none =
-    let parts = none-of-both (betaPoolGrounds most n p ρ) (trancheGrounds R A B) is none in
-    record { pool = beta-pool-accepted most n p ρ refl (parts .0); tranche = tranche-accepted R A B refl (parts .1) }
+beta-loss-accepted most n p ρ ts count is none =
+    let parts = none-of-both (betaPoolGrounds most n p ρ) (countedGrounds ts count) is none in
+    record { pool = beta-pool-accepted most n p ρ refl (parts .0); tranches = tranches-accepted ts count refl (parts .1) }
+
+-- ---- tranches within the count, and past it
+
+-- The grounds are the same where the tranches within the count are.
+pub counted-within : (ts ts′ : List Tranche) (count : ℕ) → take count ts ≡ take count ts′ → countedGrounds ts count ≡ countedGrounds ts′ count
+unfolding countedGrounds
+counted-within ts ts′ count same = ap (λ (within : List Tranche). countGround count ∷ tranchesGrounds within) same
+
+pub loss-grounds-within : (most n p ρ : ℕ) (ts ts′ : List Tranche) (count : ℕ) (lengths : List ℕ) → take count ts ≡ take count ts′
+    → lossGrounds most n p ρ ts count lengths ≡ lossGrounds most n p ρ ts′ count lengths
+unfolding lossGrounds
+loss-grounds-within most n p ρ ts ts′ count lengths same = rw (counted-within ts ts′ count same) refl
+
+pub beta-loss-grounds-within : (most n p ρ : ℕ) (ts ts′ : List Tranche) (count : ℕ) → take count ts ≡ take count ts′
+    → betaLossGrounds most n p ρ ts count ≡ betaLossGrounds most n p ρ ts′ count
+unfolding betaLossGrounds
+beta-loss-grounds-within most n p ρ ts ts′ count same = rw (counted-within ts ts′ count same) refl
+
+-- The refusal is that of the tranches before place i: with those from there on it is that of all within the count.
+pub record RefusedBefore (ts : List Tranche) (count i refusal : ℕ) : Type 0 where
+  pub whole-is : firstGround (tranchesGrounds (take count ts)) ≡ firstOf refusal (firstGround (tranchesGrounds (drop i (take count ts))))
+
+module _ {ts : List Tranche} {count : ℕ} where
+  pub refused-none : RefusedBefore ts count 0 0
+  unfolding firstOf
+  refused-none = record { whole-is = refl }
+
+  pub refused-more : {i refusal refusal′ own : ℕ} → i < count → i < length ts → RefusedBefore ts count i refusal
+      → own ≡ firstGround (trancheGrounds (trancheAt ts i .recovery) (trancheAt ts i .lower) (trancheAt ts i .upper)) → refusal′ ≡ firstOf refusal own
+      → RefusedBefore ts count (suc i) refusal′
+  unfolding tranchesGrounds
+  refused-more {i} {refusal} within short before own-is is =
+      let placed : i < length (take count ts) = simp length-take (omega arith) in
+      let t = trancheAt ts i in
+      let left = tranchesGrounds (drop (suc i) (take count ts)) in
+      record {
+        whole-is =
+            before .whole-is
+            ∙ rw (drop-cons (take count ts) i (record { recovery = 0; lower = 0; upper = 0 }) placed, getD-take count ts i _ within, is, own-is, first-assoc)
+            (ap (firstOf refusal) (sym (first-append (trancheGrounds (t .recovery) (t .lower) (t .upper)) left)));
+      }
+
+  -- Past the count nothing is left.
+  pub refused-past : {i refusal : ℕ} → count ≤ i → RefusedBefore ts count i refusal → RefusedBefore ts count (suc i) refusal
+  refused-past {i} past before =
+      let short : length (take count ts) ≤ i = simp length-take (omega arith) in
+      record { whole-is = before .whole-is ∙ rw (drop-of-length-le (take count ts) short, drop-of-length-le (take count ts) {i = suc i} (omega arith)) refl }
+
+  pub refused-all : {i refusal : ℕ} → length ts ≤ i → RefusedBefore ts count i refusal → refusal ≡ firstGround (tranchesGrounds (take count ts))
+  unfolding tranchesGrounds firstGround
+  refused-all {i} {refusal} all before =
+      let short : length (take count ts) ≤ i = simp length-take (omega arith) in
+      sym (before .whole-is ∙ rw (drop-of-length-le (take count ts) short, first-last) refl)
 
 -- ---- the refusal of a pool
 
 -- Its number is 3 at most.
 pub pool-refusal-at-most : (most n p ρ : ℕ) → firstGround (poolGrounds most n p ρ) ≤ 3
 unfolding poolGrounds assetsGround probabilityGround correlationGround
-pool-refusal-at-most most n p ρ = omega (arith, first-below (poolGrounds most n p ρ) (lit< {n = 4} tt) tt)
+pool-refusal-at-most most n p ρ = leb→le _ 3 (first-meets (λ x. leb x 3) (poolGrounds most n p ρ) tt tt)
 
 none-shorter : {m m′ : ℕ} (ls : List ℕ) → m ≤ m′ → EachAtLeast m′ ls → someShorter m ls ≡ false
 unfolding someShorter
@@ -275,19 +349,27 @@ screens-within within given = given .otherwise (λ eleven. let more = given .onl
 pub screens-at : {most limit n library number number′ : ℕ} → number ≡ number′ → Screens most limit n library number′ → Screens most limit n library number
 screens-at {most} {limit} {n} {library} is given = subst (Screens most limit n library) (sym is) given
 
--- A list that starts with ground 1 and has no other number above 10.
+abbrev notEleven : ℕ → Bool
+notEleven x = not (eqb x 11)
+
+-- A list that starts with ground 1, and in which no other ground has number 11.
 pub record StartsWithOne (most n : ℕ) (gs : List Ground) : Type 0 where
   pub rest : List Ground
   pub is : gs ≡ assetsGround most n ∷ rest
-  pub low : T (numberedBelow 11 rest)
+  pub others : T (numbersMeet notEleven rest)
 
 pub column-starts : (most n p ρ : ℕ) (lengths : List ℕ) (units : ℕ) → StartsWithOne most n (columnGrounds most n p ρ lengths units)
 unfolding columnGrounds entriesGrounds fillGrounds poolGrounds probabilityGround correlationGround storeGround entriesGround
-column-starts most n p ρ lengths units = record { rest = _; is = refl; low = tt }
+column-starts most n p ρ lengths units = record { rest = _; is = refl; others = tt }
 
-pub loss-starts : (most n p ρ R A B : ℕ) (lengths : List ℕ) → StartsWithOne most n (lossGrounds most n p ρ R A B lengths)
-unfolding lossGrounds trancheGrounds poolGrounds probabilityGround correlationGround recoveryGround upperGround attachmentsGround storeGround
-loss-starts most n p ρ R A B lengths = record { rest = _; is = refl; low = tt }
+tranches-not-eleven : (ts : List Tranche) (gs : List Ground) → T (numbersMeet notEleven gs) → T (numbersMeet notEleven (tranchesGrounds ts ++ gs))
+unfolding tranchesGrounds trancheGrounds recoveryGround upperGround attachmentsGround
+tranches-not-eleven [] gs others = others
+tranches-not-eleven (t ∷ ts) gs others = tranches-not-eleven ts gs others
+
+pub loss-starts : (most n p ρ : ℕ) (ts : List Tranche) (count : ℕ) (lengths : List ℕ) → StartsWithOne most n (lossGrounds most n p ρ ts count lengths)
+unfolding lossGrounds poolGrounds probabilityGround correlationGround countedGrounds countGround storeGround
+loss-starts most n p ρ ts count lengths = record { rest = _; is = refl; others = tranches-not-eleven (take count ts) (storeGround n lengths ∷ []) tt }
 
 module _ {most n : ℕ} (limit : ℕ) {gs : List Ground} (starts : StartsWithOne most n gs) where
   pub screens : Screens most limit n (firstGround gs) (firstGround (screened limit n gs))
@@ -297,8 +379,8 @@ module _ {most n : ℕ} (limit : ℕ) {gs : List Ground} (starts : StartsWithOne
       later : ℕ
       later = firstGround (starts .rest)
 
-      ten : later < 11
-      ten = first-below (starts .rest) (lit< tt) (starts .low)
+      other : later ≡ 11 → ⊥
+      other eleven = subst (λ (x : ℕ). T (notEleven x)) eleven (first-meets notEleven (starts .rest) tt (starts .others))
 
       in-between : limit < n → n ≤ most → (eqb n 0 || ltb most n) ≡ false
       in-between more l =
@@ -319,7 +401,7 @@ module _ {most n : ℕ} (limit : ℕ) {gs : List Ground} (starts : StartsWithOne
       }
       by-tests false false one-is eleven-is = record {
         eleven = λ more _. absurd (true≢false (sym (lt-ltb limit n more) ∙ sym eleven-is));
-        only = λ is. absurd (omega (arith, ten));
+        only = λ is. absurd (other is);
         otherwise = λ _. refl;
       }
 

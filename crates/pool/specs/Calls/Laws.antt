@@ -1,40 +1,42 @@
 -- What the calls on a pool promise, from what the steps give; what an accepted call's inputs give the functions below it; that a contract leaves one outcome, and
 -- what else holds of that outcome by other refusals and at another distance.
 -- Assumes nothing.
-use Prim.Native.Nat.{ℕ, suc, _-_, _*_, _<_}
+use Prim.Native.Nat.{ℕ, suc, _<_}
 use mathlib.Core.Path.{_≡_, refl, sym, ap, _∙_}
 use mathlib.Core.List.{List}
-use native.Mathlib.Decide.{ℕ-discrete}
+use lib.ListN.{take, replicate}
 use native.Mathlib.Nat.{le-refl}
 use Rattle.model.specs.Fraction.{Fraction}
 use Rattle.model.specs.Chances.{Chances}
-use Rattle.model.specs.Chances.Laws.{tranche-wide}
 use Rattle.model.specs.CorrelatedBinomial.{defaults}
 use Rattle.kept.specs.declared.Kept.{Kept}
 use Rattle.kept.specs.declared.Side.{Side}
-use Rattle.kept.specs.declared.Side.the-variants.{Low, High}
-use Rattle.steps.specs.Chances.{keptLoss}
+use Rattle.kept.specs.declared.Side.the-variants.{Low}
 use Rattle.steps.specs.Column.{printedTail, printedRow, PrintsColumn}
-use Rattle.steps.specs.Loss.{LossAnswer, lossAnswer}
-use Rattle.steps.specs.Inputs.{largestPool, InRange, TrancheInRange}
+use Rattle.steps.specs.declared.Tranche.{Tranche}
+use Rattle.steps.specs.Loss.{LossAnswer, untouched}
+use Rattle.steps.specs.Tranches.{tranchePlaces, trancheLosses, lossesAfter}
+use Rattle.steps.specs.Tranches.Laws.{losses-untouched, losses-accepted}
+use Rattle.steps.specs.Inputs.{largestPool, InRange}
 use Rattle.steps.specs.Inputs.Laws.{working-range}
-use Rattle.steps.specs.Promises.{HoldsLoss}
+use Rattle.steps.specs.Promises.{HoldsLosses}
 use Rattle.steps.specs.Promises.Laws.{column-holds}
 use Rattle.steps.specs.CorrelatedBinomial.Budgets.{defaultsBudget, poolBudget, BudgetsFor}
 use Rattle.steps.specs.CorrelatedBinomial.Rows.{keptRow}
-use Rattle.steps.specs.CorrelatedBinomial.Theorems.{within, placed, pool-budgets, answer}
+use Rattle.steps.specs.CorrelatedBinomial.Theorems.{within, placed, pool-budgets, answers}
 use Rattle.working.specs.Working.{workingPlaces, Entries}
 use Rattle.working.specs.Slices.{entriesAfter}
 use Rattle.working.specs.Slices.Laws.{entries-at, entries-untouched}
 use Rattle.chances.specs.Tails.{ColumnReady}
-use Rattle.chances.specs.Loss.{TrancheReady}
-use Rattle.chances.specs.Chances.Ready.{column-ready, tranche-ready}
+use Rattle.expected_losses.specs.Loss.{OnSides, TranchesReady}
+use Rattle.chances.specs.Chances.Ready.{column-ready}
+use Rattle.expected_losses.specs.Loss.Ready.{tranches-ready}
+use Rattle.grounds.specs.Grounds.{firstGround, PoolAccepted, TranchesAccepted}
+use Rattle.grounds.specs.Grounds.Laws.{loss-grounds-within}
 use Rattle.store.specs.declared.Pool.{Pool}
 use Rattle.store.specs.Stores.{Store}
 use Rattle.store.specs.Calls.Laws.{store-left, store-untouched}
-use Rattle.pool.specs.declared.Tranche.{Tranche}
-use Rattle.pool.specs.Answers.{LossReply, refused, answered, refusalOf}
-use Rattle.pool.specs.Calls.{PrintsRow, RepliesLoss, Prints, Replies}
+use Rattle.pool.specs.Calls.{PrintsRow, RepliesLosses, Prints, lossRefusal, Replies}
 
 -- ---- a row of chances in general
 
@@ -55,43 +57,27 @@ module _ {off : Fraction} {r : Chances} {low : ℕ → Kept} where
       → PrintsRow off r low units left′ refusal′ → left ≡ left′
   row-once same one other = rw (one .units-are, other .units-are, same) refl
 
-module _ {r : Chances} {c : Side → ℕ → Kept} {R A B : ℕ} where
-  pub reply-refused : {g refusal : ℕ} → (refusal ≡ 0 → ⊥) → RepliesLoss g r c R A B refusal (refused refusal)
-  unfolding refusalOf
-  reply-refused some = record { refusal-is = refl; refused-is = λ _. refl; wide = λ none. absurd (some none); holds-loss = λ none. absurd (some none) }
+module _ {r : Chances} {c : Side → ℕ → Kept} where
+  pub reply-refused : {g refusal : ℕ} {ts : List Tranche} {losses : List LossAnswer} → (refusal ≡ 0 → ⊥) → losses ≡ replicate tranchePlaces untouched
+      → RepliesLosses g r c ts refusal losses
+  reply-refused some are = record { losses-are = are ∙ losses-untouched _ _ _ _ some; holds-losses = λ none. absurd (some none) }
 
-  pub reply-answered : {g : ℕ} {loss : LossAnswer} → 0 < r .assets → TrancheInRange R A B → ((wide : 0 < (B - A) * r .assets) → HoldsLoss g r c R A B wide loss)
-      → RepliesLoss g r c R A B 0 (answered loss)
-  unfolding refusalOf
-  reply-answered {loss} not-empty tranche holds = record {
-    refusal-is = refl;
-    refused-is = λ some. absurd (some refl);
-    wide = λ _. tranche-wide not-empty (tranche .lower);
-    holds-loss = λ _ wide. record { loss = loss; reply-is = refl; holds = holds wide };
-  }
+  pub reply-answered : {g : ℕ} {ts : List Tranche} {losses : List LossAnswer} → losses ≡ trancheLosses (r .assets) c ts → HoldsLosses g r c ts losses
+      → RepliesLosses g r c ts 0 losses
+  unfolding lossesAfter
+  reply-answered are holds = record { losses-are = are; holds-losses = λ _. holds }
 
-  pub reply-once : {f g refusal : ℕ} {reply reply′ : LossReply} → RepliesLoss f r c R A B refusal reply → RepliesLoss g r c R A B refusal reply′ → reply ≡ reply′
-  reply-once {refusal} one other = elim (ℕ-discrete refusal 0) [
-    | yes none ↦
-        let wide = one .wide none in
-        let first = one .holds-loss none wide in
-        let second = other .holds-loss none wide in
-        first .reply-is ∙ ap answered (first .holds .answer-is ∙ sym (second .holds .answer-is)) ∙ sym (second .reply-is)
-    | no some ↦ one .refused-is some ∙ sym (other .refused-is some)
-  ]
+  -- The losses depend on the tranches within the count alone.
+  pub reply-once : {f g refusal refusal′ : ℕ} {ts ts′ : List Tranche} {losses losses′ : List LossAnswer} → ts ≡ ts′ → refusal ≡ refusal′
+      → RepliesLosses f r c ts refusal losses → RepliesLosses g r c ts′ refusal′ losses′ → losses ≡ losses′
+  reply-once alike same one other = rw (one .losses-are, other .losses-are, same, alike) refl
 
-  -- The same answer at another distance.
-  pub reply-apart : {f g refusal : ℕ} {reply : LossReply} → RepliesLoss f r c R A B refusal reply
-      → (refusal ≡ 0 → (wide : 0 < (B - A) * r .assets) (loss : LossAnswer)
-      → loss ≡ lossAnswer (keptLoss Low (r .assets) (c Low) R A B wide) (keptLoss High (r .assets) (c High) R A B wide) → HoldsLoss g r c R A B wide loss)
-      → RepliesLoss g r c R A B refusal reply
-  reply-apart replies holds = record {
-    refusal-is = replies .refusal-is;
-    refused-is = replies .refused-is;
-    wide = replies .wide;
-    holds-loss = λ none wide.
-        let answers = replies .holds-loss none wide in
-        record { loss = answers .loss; reply-is = answers .reply-is; holds = holds none wide (answers .loss) (answers .holds .answer-is) };
+  -- The same losses at another distance.
+  pub reply-apart : {f g refusal : ℕ} {ts : List Tranche} {losses : List LossAnswer}
+      → (refusal ≡ 0 → losses ≡ trancheLosses (r .assets) c ts → HoldsLosses g r c ts losses) → RepliesLosses f r c ts refusal losses → RepliesLosses g r c ts refusal losses
+  reply-apart {ts} {losses} holds replies = record {
+    losses-are = replies .losses-are;
+    holds-losses = λ none. holds none (losses-accepted _ _ _ none (replies .losses-are));
   }
 
 -- ---- for the pools of the calls
@@ -101,11 +87,12 @@ module _ {n p ρ : ℕ} (range : InRange largestPool n p ρ) where
   unfolding defaults
   column-is-ready last = column-ready (within range) (placed range) (working-range range .assets) last
 
-  pub tranche-is-ready : {R A B : ℕ} {low high : List Kept} → 0 < n → TrancheInRange R A B → Entries workingPlaces (suc n) low (keptRow Low p ρ n)
-      → Entries workingPlaces (suc n) high (keptRow High p ρ n) → TrancheReady n low high R A B
+  pub tranches-are-ready : {ts : List Tranche} {count : ℕ} {low high : List Kept} → 0 < n → TranchesAccepted ts count
+      → OnSides n low high (λ side. keptRow side p ρ n) → TranchesReady n low high ts count
   unfolding defaults poolBudget defaultsBudget
-  tranche-is-ready not-empty tranche low high =
-      tranche-ready (within range) (placed range) (working-range range .assets) (pool-budgets (range .assets) .budget (le-refl n)) low high not-empty tranche
+  tranches-are-ready not-empty accepted rows =
+      tranches-ready (within range) (placed range) (working-range range .assets) (pool-budgets (range .assets) .budget (le-refl n)) rows not-empty
+      (accepted .places) (accepted .tranches)
 
 -- ---- a refused call
 
@@ -114,9 +101,10 @@ module _ {g : ℕ → ℕ} {pool : Pool} {before : Store} where
       → Prints refuses g pool before before units units refusal
   prints-untouched is some = record { refusal-is = is; leaves = store-untouched _ some refl; prints = row-untouched some }
 
-  pub replies-untouched : {refuses : Pool → Tranche → Store → ℕ} {tranche : Tranche} {refusal : ℕ} → refusal ≡ refuses pool tranche before → (refusal ≡ 0 → ⊥)
-      → Replies refuses g pool tranche before before (refused refusal)
-  replies-untouched is some = record { replies = rw is (reply-refused (λ none. some (is ∙ none))); leaves = store-untouched _ (λ none. some (is ∙ none)) refl }
+  pub replies-untouched : {refuses : Pool → List Tranche → ℕ → Store → ℕ} {tranches : List Tranche} {count refusal : ℕ} {losses : List LossAnswer}
+      → refusal ≡ refuses pool tranches count before → (refusal ≡ 0 → ⊥) → losses ≡ replicate tranchePlaces untouched
+      → Replies refuses g pool tranches count before before refusal losses
+  replies-untouched is some are = record { refusal-is = is; leaves = store-untouched _ some refl; replies = reply-refused some are }
 
 -- ---- one outcome
 
@@ -128,9 +116,21 @@ module _ {f g : ℕ → ℕ} {pool : Pool} {before after after′ : Store} where
       let same = one .refusal-is ∙ sym (other .refusal-is) in
       (same, rw (one .leaves .store-is, other .leaves .store-is, same) refl, row-once same (one .prints) (other .prints))
 
-  pub replies-once : {refuses : Pool → Tranche → Store → ℕ} {tranche : Tranche} {reply reply′ : LossReply} → Replies refuses f pool tranche before after reply
-      → Replies refuses g pool tranche before after′ reply′ → (reply ≡ reply′) × (after ≡ after′)
-  replies-once one other = (reply-once (one .replies) (other .replies), one .leaves .store-is ∙ sym (other .leaves .store-is))
+  -- Whatever records stand past the count, where the list that refuses does not look at them.
+  pub replies-once : {refuses : Pool → List Tranche → ℕ → Store → ℕ} {tranches tranches′ : List Tranche} {count : ℕ} {refusal refusal′ : ℕ}
+      {losses losses′ : List LossAnswer} → take count tranches ≡ take count tranches′ → refuses pool tranches count before ≡ refuses pool tranches′ count before
+      → Replies refuses f pool tranches count before after refusal losses → Replies refuses g pool tranches′ count before after′ refusal′ losses′
+      → (refusal ≡ refusal′) × (after ≡ after′) × (losses ≡ losses′)
+  replies-once alike alone one other =
+      let same = one .refusal-is ∙ alone ∙ sym (other .refusal-is) in
+      (same, rw (one .leaves .store-is, other .leaves .store-is, same) refl, reply-once alike same (one .replies) (other .replies))
+
+-- The records past the count play no part.
+pub replies-alone : {f g : ℕ → ℕ} {pool : Pool} {before after after′ : Store} {tranches tranches′ : List Tranche} {count refusal refusal′ : ℕ}
+    {losses losses′ : List LossAnswer} → take count tranches ≡ take count tranches′ → Replies lossRefusal f pool tranches count before after refusal losses
+    → Replies lossRefusal g pool tranches′ count before after′ refusal′ losses′ → (refusal ≡ refusal′) × (after ≡ after′) × (losses ≡ losses′)
+unfolding lossRefusal
+replies-alone alike = replies-once alike (ap firstGround (loss-grounds-within _ _ _ _ _ _ _ _ alike))
 
 -- ---- the same outcome by another list that gives the same number, at another distance
 
@@ -144,16 +144,17 @@ module _ {f g : ℕ → ℕ} {pool : Pool} {before after : Store} where
     prints = prints .prints;
   }
 
-  pub replies-apart : {refuses refuses′ : Pool → Tranche → Store → ℕ} {tranche : Tranche} {reply : LossReply} → refuses′ pool tranche before ≡ refuses pool tranche before
-      → (refuses pool tranche before ≡ 0
-      → InRange largestPool (pool .assets) (pool .probability) (pool .correlation) × TrancheInRange (pool .recovery) (tranche .lower) (tranche .upper)
+  pub replies-apart : {refuses refuses′ : Pool → List Tranche → ℕ → Store → ℕ} {tranches : List Tranche} {count refusal : ℕ} {losses : List LossAnswer}
+      → refuses′ pool tranches count before ≡ refuses pool tranches count before
+      → (refuses pool tranches count before ≡ 0 → PoolAccepted largestPool (pool .assets) (pool .probability) (pool .correlation) × TranchesAccepted tranches count
       × BudgetsFor g (pool .assets))
-      → Replies refuses f pool tranche before after reply → Replies refuses′ g pool tranche before after reply
+      → Replies refuses f pool tranches count before after refusal losses → Replies refuses′ g pool tranches count before after refusal losses
   unfolding defaults
-  replies-apart {tranche} same given replies = record {
-    replies =
-        rw same
-        (reply-apart (replies .replies) (λ none wide loss is.
-        let accepted = given none in answer (accepted .0) (accepted .2) (pool .recovery) (tranche .lower) (tranche .upper) (accepted .1 .upper) wide is));
-    leaves = rw same (store-left _ (replies .leaves .store-is) (λ none. (given none .0, given none .2)));
-  }
+  replies-apart {tranches} {count} {refusal} same given replies =
+      let accepted : refusal ≡ 0 → PoolAccepted largestPool (pool .assets) (pool .probability) (pool .correlation) × TranchesAccepted tranches count
+      × BudgetsFor g (pool .assets) = λ none. given (sym (replies .refusal-is) ∙ none) in
+      record {
+        refusal-is = replies .refusal-is ∙ sym same;
+        leaves = store-left _ (replies .leaves .store-is) (λ none. (accepted none .0 .range, accepted none .2));
+        replies = reply-apart (λ none are. answers (accepted none .0 .range) (accepted none .2) (accepted none .0 .not-empty) (accepted none .1 .tranches) are) (replies .replies);
+      }

@@ -1,17 +1,18 @@
 -- The contract of each call implies what is demanded of it.
 -- Assumes nothing.
 use Prim.Native.Nat.{ℕ, zero, suc, _+_, _-_, _*_, _/_, _≤_, _<_}
-use mathlib.Core.Path.{_≡_, refl, sym, ap, _∙_}
+use mathlib.Core.Path.{_≡_, refl, sym, ap, subst, _∙_}
 use mathlib.Core.Logic.{_⊎_, inl, inr}
 use mathlib.Core.List.{List}
 use native.Mathlib.Omega.{arith}
 use lib.Dec.{lit≤}
-use lib.ListN.{length, getD, drop}
+use lib.ListN.{length, getD, take, drop, length-take, length-map, getD-replicate, List·getD-map}
+use lib.Seq.{getD-take}
 use Rattle.model.specs.Number.{triangle}
 use Rattle.model.specs.Number.Laws.{triangle-closed}
 use Rattle.model.specs.Fraction.{Fraction, Same, AtMost}
 use Rattle.model.specs.Fraction.Laws.{same-refl}
-use Rattle.model.specs.Chances.{Chances, chance, expectedLoss}
+use Rattle.model.specs.Chances.{Chances, chance}
 use Rattle.model.specs.CorrelatedBinomial.{defaults}
 use Rattle.kept.specs.declared.Kept.{Kept}
 use Rattle.kept.specs.declared.Side.{Side}
@@ -22,12 +23,16 @@ use Rattle.steps.specs.CorrelatedBinomial.Rows.{keptRow}
 use Rattle.steps.specs.Column.{unitsOfCertainty, exactUnits, half, printedTail, tenths}
 use Rattle.steps.specs.Column.Laws.{in-units-at-most, in-units-next, within-weaken}
 use Rattle.steps.specs.Enclosure.{Enclosed}
-use Rattle.steps.specs.Loss.{raisedToShown, Says}
+use Rattle.steps.specs.declared.Tranche.{Tranche}
+use Rattle.steps.specs.Loss.{untouched, raisedToShown, Says}
+use Rattle.steps.specs.Tranches.{tranchePlaces}
+use Rattle.steps.specs.Tranches.Laws.{answer-length, losses-untouched}
 use Rattle.steps.specs.Loss.Laws.{raised-greater, least-shown-value}
 use Rattle.steps.specs.Inputs.{largestPool, distanceFor, tenthsFor}
-use Rattle.steps.specs.Promises.{HoldsSteps, HoldsColumn}
-use Rattle.steps.specs.Chances.{keptTail, keptLoss}
-use Rattle.chances.specs.Loss.{lossOf}
+use Rattle.steps.specs.Promises.{HoldsSteps, HoldsColumn, HoldsLoss}
+use Rattle.steps.specs.Chances.{keptTail}
+use Rattle.expected_losses.specs.Loss.{lossOf, lossesIn}
+use Rattle.expected_losses.specs.Loss.Laws.{one-loss}
 use Rattle.working.specs.Slices.{overwritten, entriesAfter, numberAt}
 use Rattle.working.specs.Slices.Laws.{overwritten-later, entries-kept, entries-later}
 use Rattle.rows.specs.Store.{filledSide, stored}
@@ -35,17 +40,15 @@ use Rattle.rows.specs.Store.Laws.{stored-length}
 use Rattle.grounds.specs.Grounds.{Ground, firstGround}
 use Rattle.grounds.specs.Grounds.Laws.{row-accepted}
 use Rattle.store.specs.declared.Pool.{Pool}
-use Rattle.pool.specs.declared.Tranche.{Tranche}
-use Rattle.chances.specs.declared.Loss.{Loss}
-use Rattle.chances.specs.declared.Loss.the-variants.{Untouched, Faint, Shown}
-use Rattle.pool.specs.declared.Answer.{Answer}
-use Rattle.pool.specs.declared.Answer.the-variants.{Refused, Answered}
+use Rattle.expected_losses.specs.declared.Loss.{Loss}
+use Rattle.expected_losses.specs.declared.Loss.the-variants.{Untouched, Faint, Shown}
+use Rattle.expected_losses.specs.declared.TrancheLoss.{TrancheLoss}
+use Rattle.expected_losses.specs.declared.Answer.{Answer}
 use Rattle.store.specs.Stores.{Store, lengths, sideOf, place, storeAfter}
 use Rattle.store.specs.Calls.{LeavesStore, Fills, fillRefusal, HandsRow, rowRefusal}
-use Rattle.pool.specs.Answers.{replyOf, refusalOf}
-use Rattle.pool.specs.Calls.{columnRefusal, Prints, lossRefusal, AnswersLoss, Replies}
-use Rattle.pool.specs.Demands.{BoundDemands, StepsDemands, oneHalf, PrintedDemands, oneAndAHalf, Demand3Column, Slices, significandsOn, numberOn, from, TableDemands, StoreDemands, edge, LossDemands, AnswerDemands, exactLoss, refusalIn}
-use Rattle.pool.specs.Demands.{FillDemands, RowDemands, EntriesDemands, ColumnDemandsBy, ColumnDemands, TrancheDemandsBy, TrancheDemands}
+use Rattle.pool.specs.Calls.{columnRefusal, Prints, lossRefusal, RepliesLosses, Replies}
+use Rattle.pool.specs.Demands.{BoundDemands, StepsDemands, oneHalf, PrintedDemands, oneAndAHalf, Demand3Column, Slices, significandsOn, numberOn, from, TableDemands, StoreDemands, edge, LossDemands, TrancheDemands, lossAt, LossesDemands}
+use Rattle.pool.specs.Demands.{FillDemands, RowDemands, EntriesDemands, ColumnDemandsBy, ColumnDemands, TranchesDemandsBy, TranchesDemands}
 
 -- The four slices of a store.
 abbrev pub slices : Store → Slices
@@ -210,45 +213,51 @@ loss-meets parts low high v (Faint number) says = record {
 loss-meets parts low high v (Shown bounds) says =
     record { low-not-below = says .low-not-below; lower-is = says .lower-is .exact; upper-is = says .upper-is .exact }
 
--- A loss of any row that is answered.
-pub answer-meets : {parts : ℕ} {r : Chances} {c : Side → ℕ → Kept} {R A B : ℕ} (wide : 0 < (B - A) * r .assets) (answer : Answer)
-    → AnswersLoss parts r c R A B wide (replyOf answer)
-    → AnswerDemands parts (keptLoss Low (r .assets) (c Low) R A B wide) (keptLoss High (r .assets) (c High) R A B wide) (expectedLoss r R A B wide) answer
-unfolding replyOf
-answer-meets wide (Refused number) answers = let never : _≡_ {A = ℕ} 0 1 = cc (answers .reply-is) in absurd (omega arith)
-answer-meets {parts} {r} {c} {R} {A} {B} wide (Answered loss) answers =
-    let same : answers .loss ≡ lossOf loss = cc (answers .reply-is) in
-    let holds = answers .holds in
-    record {
-      bounds = bounds-meet (holds .enclosed);
-      loss = loss;
-      answer-is = refl;
-      says = loss-meets parts (keptLoss Low (r .assets) (c Low) R A B wide) (keptLoss High (r .assets) (c High) R A B wide) (expectedLoss r R A B wide) loss
-          (rw same at (holds .says));
-    }
+-- What stands at a place of the answer, and what the contract says of it.
+at-place : (losses : List TrancheLoss) (i : ℕ) → getD (lossesIn losses) i untouched ≡ lossOf (getD losses i (record { loss = Untouched }) .loss)
+unfolding lossesIn lossOf
+at-place losses i = List·getD-map (λ l. lossOf (l .loss)) losses i (record { loss = Untouched })
 
-pub number-is : (answer : Answer) → refusalIn answer ≡ refusalOf (replyOf answer)
-unfolding replyOf refusalOf
-number-is (Refused number) = refl
-number-is (Answered loss) = refl
+untouched-there : (loss : Loss) → lossOf loss ≡ untouched → loss ≡ Untouched
+unfolding lossOf
+untouched-there loss is = one-loss loss Untouched is
 
-module _ {pool : Pool} {tranche : Tranche} {before after : Store} (answer : Answer) where
+-- A loss at a place, from what holds of it.
+tranche-meets : {parts : ℕ} {r : Chances} {c : Side → ℕ → Kept} (t : Tranche) (loss : Loss) (wide : 0 < (t .upper - t .lower) * r .assets)
+    → HoldsLoss parts r c (t .recovery) (t .lower) (t .upper) wide (lossOf loss) → TrancheDemands parts r c t loss
+tranche-meets t loss wide holds = record { wide = wide; bounds = bounds-meet (holds .enclosed); says = loss-meets _ _ _ _ loss (holds .says) }
+
+-- The losses that any call answers, for eight tranches.
+pub losses-meet : {parts : ℕ} {r : Chances} {c : Side → ℕ → Kept} {tranches : List Tranche} {count : ℕ} (answer : Answer) → length tranches ≡ 8
+    → RepliesLosses parts r c (take count tranches) (answer .refusal) (lossesIn (answer .losses)) → LossesDemands parts r c tranches count answer
+unfolding tranchePlaces lossesIn
+losses-meet {parts} {r} {c} {tranches} {count} answer eight replies = record {
+  eight =
+      sym (length-map (answer .losses) (λ l. lossOf (l .loss))) ∙ ap length (replies .losses-are)
+      ∙ answer-length (r .assets) c (take count tranches) (answer .refusal) (omega (arith, length-take count tranches, eight));
+  within = λ none i l m.
+      let holds = replies .holds-losses none in
+      let asked : i < length (take count tranches) = omega (arith, length-take count tranches, eight) in
+      subst (λ t. TrancheDemands parts r c t (lossAt answer i)) (getD-take count tranches i _ m)
+      (tranche-meets _ _ (holds .wide i asked) (rw (at-place (answer .losses) i) at (holds .loss i asked (holds .wide i asked))));
+  past = λ none i l m.
+      untouched-there _ (sym (at-place (answer .losses) i) ∙ replies .holds-losses none .past i (omega (arith, length-take count tranches, eight)));
+  refused = λ some i l.
+      untouched-there _ (sym (at-place (answer .losses) i) ∙ rw (replies .losses-are ∙ sym (losses-untouched _ _ _ _ some)) (getD-replicate tranchePlaces i untouched untouched l));
+}
+
+module _ {pool : Pool} {tranches : List Tranche} {count : ℕ} {before after : Store} (answer : Answer) where
   -- Whatever list refuses, at any one distance.
-  pub tranche-meets-by : {refuses : Pool → Tranche → Store → ℕ} {parts : ℕ} {grounds : List Ground}
-      → Replies refuses (λ _. parts) pool tranche before after (replyOf answer) → refuses pool tranche before ≡ firstGround grounds
-      → TrancheDemandsBy pool tranche parts grounds (slices before) (slices after) answer
-  unfolding defaults exactLoss
-  tranche-meets-by replies first =
-      let is = number-is answer ∙ replies .replies .refusal-is in
-      let leaves = rw (← is) at (replies .leaves) in
-      record {
-        one = record { number = is ∙ first; untouched = λ some. ap slices (store-kept leaves some) };
-        store = store-meets leaves;
-        wide = λ none. replies .replies .wide (sym is ∙ none);
-        loss = λ none wide. answer-meets wide answer (replies .replies .holds-loss (sym is ∙ none) wide);
-      }
+  pub tranches-meet-by : {refuses : Pool → List Tranche → ℕ → Store → ℕ} {parts : ℕ} {grounds : List Ground} → length tranches ≡ 8
+      → Replies refuses (λ _. parts) pool tranches count before after (answer .refusal) (lossesIn (answer .losses))
+      → refuses pool tranches count before ≡ firstGround grounds → TranchesDemandsBy pool tranches count parts grounds (slices before) (slices after) answer
+  tranches-meet-by eight replies first = record {
+    one = record { number = replies .refusal-is ∙ first; untouched = λ some. ap slices (store-kept (replies .leaves) some) };
+    store = store-meets (replies .leaves);
+    losses = losses-meet answer eight (replies .replies);
+  }
 
-  pub tranche-meets : Replies lossRefusal distanceFor pool tranche before after (replyOf answer)
-      → TrancheDemands pool tranche (slices before) (slices after) answer
+  pub tranches-meet : length tranches ≡ 8 → Replies lossRefusal distanceFor pool tranches count before after (answer .refusal) (lossesIn (answer .losses))
+      → TranchesDemands pool tranches count (slices before) (slices after) answer
   unfolding lossRefusal lengths largestPool distanceFor
-  tranche-meets replies = tranche-meets-by replies refl
+  tranches-meet eight replies = tranches-meet-by eight replies refl

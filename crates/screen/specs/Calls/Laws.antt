@@ -1,19 +1,21 @@
 -- What the calls of the screen promise: where it refuses by 1 or 11, and where it hands over to the library.
 -- Assumes nothing.
 use Prim.Native.Nat.{ℕ}
-use mathlib.Core.Path.{_≡_, refl, sym, _∙_}
+use mathlib.Core.Path.{_≡_, refl, sym, ap, _∙_}
 use mathlib.Core.List.{List, [], _∷_}
 use lib.Dec.{lit<}
+use lib.ListN.{take, replicate}
+use Rattle.steps.specs.declared.Tranche.{Tranche}
+use Rattle.steps.specs.Loss.{LossAnswer, untouched}
+use Rattle.steps.specs.Tranches.{tranchePlaces}
 use Rattle.steps.specs.Inputs.{largestPool, distanceFor, screenPool}
 use Rattle.steps.specs.CorrelatedBinomial.Theorems.{screen-budgets}
-use Rattle.grounds.specs.Grounds.{firstGround, assetsGround, screenGround, columnGrounds, screenColumnGrounds, screenLossGrounds, Screens}
-use Rattle.grounds.specs.Grounds.Laws.{entries-accepted, loss-accepted, column-starts, loss-starts, screens, screens-at, screens-within, screen-refused, screen-within}
+use Rattle.grounds.specs.Grounds.{firstGround, assetsGround, screenGround, columnGrounds, screenColumnGrounds, screened, screenLossGrounds, Screens}
+use Rattle.grounds.specs.Grounds.Laws.{loss-grounds-within, entries-accepted, loss-accepted, column-starts, loss-starts, screens, screens-at, screens-within, screen-refused, screen-within}
 use Rattle.store.specs.declared.Pool.{Pool}
 use Rattle.store.specs.Stores.{Store}
-use Rattle.pool.specs.declared.Tranche.{Tranche}
-use Rattle.pool.specs.Answers.{LossReply, refused, refusalOf}
 use Rattle.pool.specs.Calls.{columnRefusal, Prints, lossRefusal, Replies}
-use Rattle.pool.specs.Calls.Laws.{prints-untouched, replies-untouched, prints-apart, replies-apart}
+use Rattle.pool.specs.Calls.Laws.{prints-untouched, replies-untouched, replies-once, prints-apart, replies-apart}
 use Rattle.screen.specs.Calls.{screenColumnRefusal, ScreenPrints, screenLossRefusal, ScreenReplies}
 
 -- What `screen_refusal` gives.
@@ -47,29 +49,39 @@ module _ {pool : Pool} {before : Store} {units : List ℕ} {r : ℕ} (is : r ≡
         library = λ _. library;
       }
 
--- ---- loss
+-- ---- losses
 
-loss-screens : (pool : Pool) (tranche : Tranche) (before : Store)
-    → Screens largestPool screenPool (pool .assets) (lossRefusal pool tranche before) (screenLossRefusal pool tranche before)
+loss-screens : (pool : Pool) (tranches : List Tranche) (count : ℕ) (before : Store)
+    → Screens largestPool screenPool (pool .assets) (lossRefusal pool tranches count before) (screenLossRefusal pool tranches count before)
 unfolding lossRefusal screenLossRefusal screenLossGrounds
-loss-screens pool tranche before = screens screenPool (loss-starts _ _ _ _ _ _ _ _)
+loss-screens pool tranches count before = screens screenPool (loss-starts _ _ _ _ _ _ _)
 
-module _ {pool : Pool} {tranche : Tranche} {before : Store} {r : ℕ} (is : r ≡ firstTwo pool) where
-  pub loss-refused : (r ≡ 0 → ⊥) → ScreenReplies pool tranche before before (refused r)
-  unfolding screenLossRefusal screenLossGrounds refusalOf
-  loss-refused some =
-      let own : r ≡ screenLossRefusal pool tranche before = screen-refused screenPool (loss-starts _ _ _ _ _ _ _ _) is some in
-      let screened = screens-at own (loss-screens pool tranche before) in
-      record { own = replies-untouched own some; screens = screened; library = λ not. replies-untouched (screened .otherwise not) some }
+module _ {pool : Pool} {tranches : List Tranche} {count : ℕ} {before : Store} {r : ℕ} (is : r ≡ firstTwo pool) where
+  pub losses-refused : {losses : List LossAnswer} → (r ≡ 0 → ⊥) → losses ≡ replicate tranchePlaces untouched → ScreenReplies pool tranches count before before r losses
+  unfolding screenLossRefusal screenLossGrounds
+  losses-refused some are =
+      let own : r ≡ screenLossRefusal pool tranches count before = screen-refused screenPool (loss-starts _ _ _ _ _ _ _) is some in
+      let screened = screens-at own (loss-screens pool tranches count before) in
+      record { own = replies-untouched own some are; screens = screened; library = λ not. replies-untouched (screened .otherwise not) some are }
 
-  pub loss-handed-over : {after : Store} {reply : LossReply} → r ≡ 0 → Replies lossRefusal distanceFor pool tranche before after reply
-      → ScreenReplies pool tranche before after reply
+  pub losses-handed-over : {after : Store} {refusal : ℕ} {losses : List LossAnswer} → r ≡ 0
+      → Replies lossRefusal distanceFor pool tranches count before after refusal losses → ScreenReplies pool tranches count before after refusal losses
   unfolding lossRefusal
-  loss-handed-over none library =
+  losses-handed-over none library =
       let within = screen-within largestPool screenPool (pool .assets) is none in
-      let same = screens-within within (loss-screens pool tranche before) in
+      let same = screens-within within (loss-screens pool tranches count before) in
       record {
-        own = replies-apart same (λ accepts. let accepted = loss-accepted _ _ _ _ _ _ _ _ refl accepts in (accepted .fill .pool .range, accepted .tranche, screen-budgets within)) library;
-        screens = screens-at (library .replies .refusal-is ∙ sym same) (loss-screens pool tranche before);
+        own =
+            replies-apart same
+            (λ accepts. let accepted = loss-accepted _ _ _ _ _ _ _ refl accepts in (accepted .fill .pool, accepted .tranches, screen-budgets within)) library;
+        screens = screens-at (library .refusal-is ∙ sym same) (loss-screens pool tranches count before);
         library = λ _. library;
       }
+
+-- The records past the count play no part.
+pub screen-replies-alone : {pool : Pool} {before after after′ : Store} {tranches tranches′ : List Tranche} {count refusal refusal′ : ℕ} {losses losses′ : List LossAnswer}
+    → take count tranches ≡ take count tranches′ → ScreenReplies pool tranches count before after refusal losses
+    → ScreenReplies pool tranches′ count before after′ refusal′ losses′ → (refusal ≡ refusal′) × (after ≡ after′) × (losses ≡ losses′)
+unfolding screenLossRefusal screenLossGrounds
+screen-replies-alone {pool} alike one other =
+    replies-once alike (ap (λ gs. firstGround (screened screenPool (pool .assets) gs)) (loss-grounds-within _ _ _ _ _ _ _ _ alike)) (one .own) (other .own)

@@ -2,8 +2,9 @@
 -- below 10,000, every recovery R and every tranche with B ≤ 10,000 whose width (B − A) × n is above zero. The exact value of P(j,n) is the closed form. The range of
 -- the exponents is taken from the products of quotients, whose denominators are far smaller than those of the closed form.
 -- Assumes nothing.
-use Prim.Native.Nat.{ℕ, _-_, _*_, _≤_, _<_}
+use Prim.Native.Nat.{ℕ, _*_, _≤_, _<_}
 use mathlib.Core.Path.{_≡_}
+use mathlib.Core.List.{List}
 use native.Mathlib.Omega.{arith}
 use lib.Dec.{lit<, lit≤}
 use Rattle.model.specs.Fraction.{integer, times, whole}
@@ -18,15 +19,16 @@ use Rattle.kept.specs.Accuracy.{precision, BudgetFor}
 use Rattle.kept.specs.Accuracy.Laws.{budget-for-weaken}
 use Rattle.steps.specs.Budgets.{chanceBudget, tailBudget, lossBudget, WithinBudget, WithinPlaces}
 use Rattle.steps.specs.Counts.{countBudget}
-use Rattle.steps.specs.Chances.{keptLoss}
 use Rattle.steps.specs.Column.{unitsOfCertainty, half, printedTail, printedRow, tenths, PrintsTails, PrintsColumn}
 use Rattle.steps.specs.Enclosure.{Enclosed}
 use Rattle.steps.specs.Enclosure.Laws.{bound-enclosed}
 use Rattle.steps.specs.Exponents.{Ranged}
 use Rattle.steps.specs.Inputs.{largestPool, distanceFor, tenthsFor, InRange}
-use Rattle.steps.specs.Loss.{LossAnswer, lossAnswer}
-use Rattle.steps.specs.Promises.{HoldsSteps, HoldsLoss}
-use Rattle.steps.specs.Promises.Laws.{steps-ranged, row-tails, tails-column, row-enclosed, loss-holds, within-same}
+use Rattle.steps.specs.declared.Tranche.{Tranche}
+use Rattle.steps.specs.Loss.{LossAnswer}
+use Rattle.steps.specs.Tranches.{TranchesInRange, trancheLosses}
+use Rattle.steps.specs.Promises.{HoldsSteps, HoldsLosses}
+use Rattle.steps.specs.Promises.Laws.{steps-ranged, row-tails, tails-column, row-enclosed, losses-hold, within-same}
 use Rattle.steps.specs.BetaBinomial.{keptEntry, keptBetaDefaults, BetaNumber, is-quotient, is-product, of-steps, quotientsBudget}
 use Rattle.steps.specs.BetaBinomial.Laws.{quotients-bound, products-digits, quotient-ranged, quotients-ranged}
 
@@ -85,12 +87,11 @@ module _ {n p ρ : ℕ} (range : InRange largestPool n p ρ) (ρ<1 : ρ < whole)
   unfolding betaDefaults defaultsBy keptBetaDefaults
   beta-steps-hold = record { enclosed = row-enclosed beta-within beta-budget; ranged = beta-exponents }
 
-  -- What holds of the loss that is answered.
-  pub beta-answer : (R A B : ℕ) → B ≤ whole → (wide : 0 < (B - A) * n) {loss : LossAnswer}
-      → loss ≡ lossAnswer (keptLoss Low n (keptBetaDefaults Low n p ρ) R A B wide) (keptLoss High n (keptBetaDefaults High n p ρ) R A B wide)
-      → unfold betaDefaults defaultsBy in HoldsLoss (distanceFor n) (betaDefaults n p ρ) (λ side. keptBetaDefaults side n p ρ) R A B wide loss
+  -- What holds of the losses that are answered.
+  pub beta-answers : {ts : List Tranche} {losses : List LossAnswer} → 0 < n → TranchesInRange ts → losses ≡ trancheLosses n (λ side. keptBetaDefaults side n p ρ) ts
+      → HoldsLosses (distanceFor n) (betaDefaults n p ρ) (λ side. keptBetaDefaults side n p ρ) ts losses
   unfolding betaDefaults defaultsBy keptBetaDefaults
-  beta-answer R A B = loss-holds beta-within beta-budget
+  beta-answers = losses-hold beta-within beta-budget
 
   -- The printed tails are at most half a unit above the exact ones and less than 0.8 units below them.
   pub beta-printed : PrintsTails half (tenths 8) (betaDefaults n p ρ) (printedTail n (keptBetaDefaults Low n p ρ))

@@ -7,7 +7,7 @@ use native.Mathlib.Nat.{suc-sub-suc, le-refl, lt-of-le-of-lt}
 use native.Mathlib.Omega.{arith}
 use Rattle.model.specs.Number.{choose}
 use Rattle.model.specs.Fraction.{Fraction, Same, integer, plus, times, divided}
-use Rattle.model.specs.Fraction.Laws.{same-refl, times-same}
+use Rattle.model.specs.Fraction.Laws.{same-refl, same-sym, same-trans, times-same}
 use Rattle.model.specs.Chances.{Chances, share, chance, tailNumerator, tail, lossUnits, lossNumerator, expectedLoss}
 use Rattle.model.specs.Chances.Laws.{tail-next, tail-past, loss-none, loss-next, loss-units-at-most}
 use Rattle.kept.specs.declared.Kept.{Kept}
@@ -17,7 +17,7 @@ use Rattle.kept.specs.Accuracy.{Bound, BudgetFor}
 use Rattle.kept.specs.Accuracy.Laws.{bound-exact, bound-weaken, bound-same, bound-product, bound-sum, bound-quotient}
 use Rattle.kept.specs.Rounding.{IsKept, value, round, roundedProduct, ofInteger}
 use Rattle.kept.specs.Rounding.Leading.{nought-same}
-use Rattle.kept.specs.Rounding.Laws.{nought-kept, round-cong, quotient-is, integer-is, integer-exact}
+use Rattle.kept.specs.Rounding.Laws.{nought-kept, kept-unique, round-cong, quotient-is, integer-is, integer-exact}
 use Rattle.steps.specs.Enclosure.{Enclosed}
 use Rattle.steps.specs.Budgets.{Bounded, chanceBudget, tailBudget, lossBudget}
 use Rattle.steps.specs.Enclosure.Laws.{bound-enclosed}
@@ -34,6 +34,12 @@ chance-bound {side} n j m = bound-weaken (omega arith) (bound-product (count-bou
 units-exact : (side : Side) (n R A B X : ℕ) → (B - A) * n < 2 ^ 32
     → Same (value (ofInteger side (lossUnits n R A B X))) (integer (lossUnits n R A B X))
 units-exact side n R A B X narrow = integer-exact side (lossUnits n R A B X) (lt-of-le-of-lt (loss-units-at-most n R A B X) narrow)
+
+-- The same on either side.
+pub units-either : (side other : Side) (n R A B X : ℕ) → (B - A) * n < 2 ^ 32 → ofInteger side (lossUnits n R A B X) ≡ ofInteger other (lossUnits n R A B X)
+units-either side other n R A B X narrow =
+    kept-unique (integer-is side (lossUnits n R A B X) .kept) (integer-is other (lossUnits n R A B X) .kept)
+    (same-trans (units-exact side n R A B X narrow) (same-sym (units-exact other n R A B X narrow)))
 
 pub loss-kept : (side : Side) (n : ℕ) (c : ℕ → Kept) (R A B : ℕ) (wide : 0 < (B - A) * n) → IsKept (keptLoss side n c R A B wide)
 unfolding keptLoss

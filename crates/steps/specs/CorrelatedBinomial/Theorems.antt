@@ -2,7 +2,7 @@
 -- tranche with B ≤ 10,000 whose width (B − A) × n is above zero, which `tranche-wide` gives for A < B and a pool that is not empty. What the steps make is
 -- within the budgets of the model's row, so that the promises of a row in general hold of it, at every distance that these budgets give.
 -- Assumes nothing.
-use Prim.Native.Nat.{ℕ, _-_, _*_, _≤_, _<_}
+use Prim.Native.Nat.{ℕ, _*_, _≤_, _<_}
 use mathlib.Core.Path.{_≡_, refl}
 use mathlib.Core.List.{List}
 use native.Mathlib.Omega.{arith}
@@ -12,7 +12,7 @@ use lib.ListN.{getD}
 use lib.IntN.{ℤ, pos}
 use Rattle.model.specs.Number.{triangle}
 use Rattle.model.specs.Number.Laws.{triangle-mono}
-use Rattle.model.specs.Fraction.{whole, integer, plus, times, over, certainty}
+use Rattle.model.specs.Fraction.{integer, plus, times, over, certainty}
 use Rattle.model.specs.Fraction.Laws.{same-sym, same-trans, whole-digits}
 use Rattle.model.specs.Chances.{share, chance}
 use Rattle.model.specs.CorrelatedBinomial.{probability, defaults}
@@ -27,16 +27,17 @@ use Rattle.steps.specs.Counts.{countBudget}
 use Rattle.steps.specs.CorrelatedBinomial.Budgets.{rowBudget, defaultsBudget, poolBudget, BudgetsFor, FewAssets}
 use Rattle.steps.specs.CorrelatedBinomial.Rows.{keptRow}
 use Rattle.steps.specs.CorrelatedBinomial.Rows.Laws.{entry-bound}
-use Rattle.steps.specs.Chances.{keptLoss}
 use Rattle.steps.specs.Enclosure.{Enclosed}
 use Rattle.steps.specs.Enclosure.Laws.{bound-enclosed}
 use Rattle.steps.specs.Column.{unitsOfCertainty, half, printedTail, printedRow, tenths, PrintsTails, PrintsColumn}
 use Rattle.steps.specs.Shifts.{tailShift}
 use Rattle.steps.specs.Exponents.{Ranged}
 use Rattle.steps.specs.CorrelatedBinomial.Exponents.Laws.{rows-ranged}
-use Rattle.steps.specs.Loss.{LossAnswer, lossAnswer}
-use Rattle.steps.specs.Promises.{HoldsSteps, HoldsShifts, HoldsLoss}
-use Rattle.steps.specs.Promises.Laws.{steps-ranged, row-tails, tails-column, row-enclosed, loss-holds, shifts-hold}
+use Rattle.steps.specs.declared.Tranche.{Tranche}
+use Rattle.steps.specs.Loss.{LossAnswer}
+use Rattle.steps.specs.Tranches.{TranchesInRange, trancheLosses}
+use Rattle.steps.specs.Promises.{HoldsSteps, HoldsShifts, HoldsLosses}
+use Rattle.steps.specs.Promises.Laws.{steps-ranged, row-tails, tails-column, row-enclosed, losses-hold, shifts-hold}
 use Rattle.steps.specs.Inputs.{largestPool, distanceFor, screenPool, screenDistance, tenthsFor, shiftTenths, workingAssets, InRange}
 use Rattle.steps.specs.Inputs.Laws.{range-uncorrelated, pool-works}
 use Rattle.steps.specs.CorrelatedBinomial.{keptDefaults}
@@ -117,12 +118,11 @@ module _ {n p ρ : ℕ} where
         ranged = pool-ranged range (few-assets (le-trans (range .assets) pool-works));
       }
 
-      -- What holds of the loss that is answered.
-      pub answer : (R A B : ℕ) → B ≤ whole → (wide : 0 < (B - A) * n) {loss : LossAnswer}
-          → loss ≡ lossAnswer (keptLoss Low n (keptDefaults Low n p ρ) R A B wide) (keptLoss High n (keptDefaults High n p ρ) R A B wide)
-          → unfold defaults in HoldsLoss (g n) (defaults n p ρ) (λ side. keptDefaults side n p ρ) R A B wide loss
+      -- What holds of the losses that are answered.
+      pub answers : {ts : List Tranche} {losses : List LossAnswer} → 0 < n → TranchesInRange ts → losses ≡ trancheLosses n (λ side. keptDefaults side n p ρ) ts
+          → HoldsLosses (g n) (defaults n p ρ) (λ side. keptDefaults side n p ρ) ts losses
       unfolding defaults keptDefaults poolBudget defaultsBudget
-      answer R A B = loss-holds within (apart .budget (le-refl n))
+      answers = losses-hold within (apart .budget (le-refl n))
 
     -- The printed tails are at most half a unit above the exact ones and less than 0.8 units below them.
     pub printed : PrintsTails half (tenths 8) (defaults n p ρ) (printedTail n (keptDefaults Low n p ρ))

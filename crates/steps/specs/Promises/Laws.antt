@@ -13,7 +13,7 @@ use Rattle.model.specs.Number.Laws.{sum-cong}
 use Rattle.model.specs.Fraction.{Fraction, Same, AtMost, integer, plus, times, whole}
 use Rattle.model.specs.Fraction.Laws.{same-refl, same-sym, same-trans, times-same, at-most-refl, less-at-most-trans, times-mono}
 use Rattle.model.specs.Chances.{Chances, SameChances, chance, tailsTotal}
-use Rattle.model.specs.Chances.Laws.{complete-same}
+use Rattle.model.specs.Chances.Laws.{complete-same, tranche-wide}
 use Rattle.kept.specs.declared.Kept.{Kept}
 use Rattle.kept.specs.declared.Side.{Side}
 use Rattle.kept.specs.declared.Side.the-variants.{Low, High}
@@ -31,9 +31,12 @@ use Rattle.steps.specs.Exponents.{Ranged}
 use Rattle.steps.specs.Exponents.Laws.{bound-ranged, unscaled}
 use Rattle.steps.specs.Loss.{LossAnswer, lossAnswer}
 use Rattle.steps.specs.Loss.Laws.{tranche-says}
+use Rattle.steps.specs.declared.Tranche.{Tranche}
+use Rattle.steps.specs.Tranches.{trancheAt, TranchesInRange, trancheLosses}
+use Rattle.steps.specs.Tranches.Laws.{tranche-loss-is, losses-at, losses-past}
 use Rattle.steps.specs.Numbers.{StepNumber, of-chances, of-tails, of-losses}
 use Rattle.steps.specs.Numbers.Laws.{chances-ranged, tails-ranged, losses-ranged}
-use Rattle.steps.specs.Promises.{RowEnclosed, HoldsColumn, HoldsShifts, HoldsLoss}
+use Rattle.steps.specs.Promises.{RowEnclosed, HoldsColumn, HoldsShifts, HoldsLoss, HoldsLosses}
 
 module _ {b : ℕ} {r : Chances} {v : ℕ → Fraction} {entry : Side → ℕ → Kept} (within : WithinBudget b r v entry) where
   abbrev kept : Side → ℕ → Kept
@@ -81,12 +84,23 @@ module _ {b : ℕ} {r : Chances} {v : ℕ → Fraction} {entry : Side → ℕ �
       losses = λ R A B B≤1 wide. loss-enclosed chances-bounded fine R A B (narrow A B B≤1) wide;
     }
 
-    pub loss-holds : {R A B : ℕ} → B ≤ whole → (wide : 0 < (B - A) * r .assets) {loss : LossAnswer}
+    loss-holds : (R A B : ℕ) → B ≤ whole → (wide : 0 < (B - A) * r .assets) {loss : LossAnswer}
         → loss ≡ lossAnswer (keptLoss Low (r .assets) (kept Low) R A B wide) (keptLoss High (r .assets) (kept High) R A B wide)
         → HoldsLoss g r (λ side. keptChances side (r .assets) (entry side)) R A B wide loss
-    loss-holds {R} {A} {B} B≤1 wide is =
+    loss-holds R A B B≤1 wide is =
         let enclosed = row-enclosed .losses R A B B≤1 wide in
         record { answer-is = is; enclosed = enclosed; says = rw is (tranche-says (fine .positive) r (kept Low) (kept High) (within .complete) R A B wide enclosed) }
+
+    -- The losses of tranches in range.
+    pub losses-hold : {ts : List Tranche} {losses : List LossAnswer} → 0 < r .assets → TranchesInRange ts
+        → losses ≡ trancheLosses (r .assets) (λ side. keptChances side (r .assets) (entry side)) ts
+        → HoldsLosses g r (λ side. keptChances side (r .assets) (entry side)) ts losses
+    losses-hold {ts} not-empty tranches are = record {
+      wide = λ i l. tranche-wide not-empty (tranches .at i l .lower);
+      loss = λ i l wide.
+          loss-holds _ _ _ (tranches .at i l .upper) wide (rw are (losses-at (r .assets) kept ts i l ∙ tranche-loss-is (r .assets) kept (trancheAt ts i) wide));
+      past = λ i l. rw are (losses-past (r .assets) kept ts i l);
+    }
 
 -- Rows printed from tails that are at most half a unit above the exact ones and less than 0.8 units below them.
 pub tails-column : {r : Chances} (low : ℕ → Kept) → PrintsTails half (tenths 8) r (printedTail (r .assets) low)
