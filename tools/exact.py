@@ -4,13 +4,15 @@ A model is its correlation after i defaults, and its steps."""
 from collections import namedtuple
 from fractions import Fraction
 from functools import lru_cache
+from itertools import accumulate
 from math import comb, prod
 
-from kept import value
 from pools import UNITS, WHOLE, beta_quotients, beta_steps, loss, loss_units, printed_rows, printed_tails, shifts, steps
 from pools import tails
 
 Model = namedtuple("Model", "correlation steps")
+# The most assets whose bounds have the finer distance, and whose printed rows are the nearer ones.
+FINE_POOL = 64
 
 
 def constant(rho, i):
@@ -27,7 +29,7 @@ MOODY = Model(constant, steps)
 BETA = Model(decaying, beta_steps)
 
 
-@lru_cache(maxsize=None)
+@lru_cache(maxsize=64)
 def joints(n, p, rho, model=MOODY):
     """m_0 to m_n, as numerators over the first of them."""
     conditionals = [(p, WHOLE)]
@@ -45,7 +47,16 @@ def closed_form(joint, j, k):
     return sum((-1)**i * comb(k - j, i) * joint[j + i] for i in range(k - j + 1))
 
 
-@lru_cache(maxsize=None)
+def entries(joint):
+    """P(0,k) to P(k,k) for k from 0 to n, over the same denominator: the differences of m_0 to m_n."""
+    differences = [joint]
+    for _ in joint[1:]:
+        last = differences[-1]
+        differences.append([x - y for x, y in zip(last, last[1:])])
+    return [[differences[k - j][j] for j in range(k + 1)] for k in range(len(joint))]
+
+
+@lru_cache(maxsize=64)
 def exact_chances(n, p, rho, model=MOODY):
     """The chances of 0 to n defaults, as numerators over one denominator."""
     joint = joints(n, p, rho, model)
@@ -54,33 +65,50 @@ def exact_chances(n, p, rho, model=MOODY):
     return chances, joint[0]
 
 
-@lru_cache(maxsize=None)
+@lru_cache(maxsize=64)
 def exact_tails(n, p, rho, model=MOODY):
     """The tails at 0 to n, over the same denominator."""
     chances, whole = exact_chances(n, p, rho, model)
-    return [sum(chances[k:]) for k in range(n + 1)], whole
+    return list(accumulate(reversed(chances)))[::-1], whole
+
+
+def library_parts(k):
+    """Bounds of an entry of row k, and of a chance, a tail and a loss of k assets, are at most one part in so many apart."""
+    return 100000 if k <= FINE_POOL else 50000
+
+
+def screen_parts(k):
+    """The same on the screen."""
+    return 1000000
 
 
 def hold_apart(parts, low, high, numerator, whole):
-    """Two bounds enclose the exact value and are at most one part in so many of it apart."""
-    low, high = value(low) * whole, value(high) * whole
+    """Two bounds enclose the exact value and are at most one part in so many of it apart. Their exponents are from -80,000 to
+    100."""
+    assert all(-80000 <= exponent <= 100 for _, exponent in (low, high))
+    least = min(low[1], high[1], 0)
+    low, high = ((significand << exponent - least) * whole for significand, exponent in (low, high))
+    numerator <<= -least
     assert low <= numerator <= high and parts * (high - low) <= numerator
 
 
 @lru_cache(maxsize=None)
-def hold_bounds(parts, n, p, rho, model=MOODY):
+def hold_bounds(n, p, rho, model=MOODY, parts=library_parts):
     """That of every entry of the rows that are made, every chance and every tail."""
     (low_rows, low), (high_rows, high) = (model.steps(side, n, p, rho) for side in (0, 1))
     joint = joints(n, p, rho, model)
+    exact_rows = entries(joint)
+    assert exact_rows[n] == [closed_form(joint, j, n) for j in range(n + 1)]
     for low_row, high_row in zip(low_rows, high_rows):
-        for j, pair in enumerate(zip(low_row, high_row)):
-            hold_apart(parts, *pair, closed_form(joint, j, len(low_row) - 1), joint[0])
+        k = len(low_row) - 1
+        for pair, numerator in zip(zip(low_row, high_row), exact_rows[k]):
+            hold_apart(parts(k), *pair, numerator, joint[0])
     for bounds, (exact, whole) in [
         (zip(low, high), exact_chances(n, p, rho, model)),
         (zip(tails(0, low), tails(1, high)), exact_tails(n, p, rho, model)),
     ]:
         for pair, numerator in zip(bounds, exact):
-            hold_apart(parts, *pair, numerator, whole)
+            hold_apart(parts(n), *pair, numerator, whole)
 
 
 def exact_loss(n, p, rho, recovery, lower, upper, model=MOODY):
@@ -90,23 +118,24 @@ def exact_loss(n, p, rho, recovery, lower, upper, model=MOODY):
     return units, whole * (upper - lower) * n
 
 
-def hold_loss(parts, n, p, rho, recovery, lower, upper, model=MOODY):
+def hold_loss(n, p, rho, recovery, lower, upper, model=MOODY, parts=library_parts):
     """That of the tranche loss of step 6."""
     low, high = (loss(side, model.steps(side, n, p, rho)[1], recovery, lower, upper) for side in (0, 1))
-    hold_apart(parts, low, high, *exact_loss(n, p, rho, recovery, lower, upper, model))
+    hold_apart(parts(n), low, high, *exact_loss(n, p, rho, recovery, lower, upper, model))
 
 
 @lru_cache(maxsize=None)
 def hold_column(n, p, rho, model=MOODY):
-    """What is promised of the printed tails and of the column: at most half a unit above the exact tail and less than 0.8 below it;
-    rows that add to 100,000, none below zero, each less than 1.5 units off."""
+    """What is promised of the printed tails and of the column: at most half a unit above the exact tail and less than 0.8 below it,
+    above 64 assets 1.3; rows that add to 100,000, none below zero, each less than 1.5 units off, above 64 assets 2."""
     low = model.steps(0, n, p, rho)[1]
     printed, rows = printed_tails(low), printed_rows(low)
     exact, whole = exact_tails(n, p, rho, model)
     exact = exact + [0]
+    below, off = (8, 15) if n <= FINE_POOL else (13, 20)
     assert printed[0] == UNITS and printed[n + 1] == 0 and sum(rows) == UNITS and min(rows) >= 0
-    assert all(-8 * whole < 10 * (printed[k] * whole - UNITS * exact[k]) <= 5 * whole for k in range(n + 2))
-    assert all(10 * abs(rows[k] * whole - UNITS * (exact[k] - exact[k + 1])) < 15 * whole for k in range(n + 1))
+    assert all(-below * whole < 10 * (printed[k] * whole - UNITS * exact[k]) <= 5 * whole for k in range(n + 2))
+    assert all(10 * abs(rows[k] * whole - UNITS * (exact[k] - exact[k + 1])) < off * whole for k in range(n + 1))
 
 
 @lru_cache(maxsize=None)

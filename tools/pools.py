@@ -8,20 +8,39 @@ from math import comb, floor
 from kept import ONE, ZERO, plus, product, quotient, rounded, value
 
 WHOLE = 10000
-LARGEST_POOL = 64
+LARGEST_POOL = 100
+# The largest pool of a shift list, and of the program column.
+REPORT_POOL = 64
+# The most assets whose counts of orders are worked out exactly.
+EXACT_ASSETS = 64
 SCREEN_POOL = 20
 TRANCHES = 8
 UNITS = 100000
 LEAST_SHOWN = (2**31, -831)
 
 
+@lru_cache(maxsize=None)
+def summed_counts(side, n):
+    """C(n,0) to C(n,n): row by row, by sums from ones at both ends."""
+    if n == 0:
+        return [ONE]
+    before = summed_counts(side, n - 1)
+    return [ONE] + [plus(side, x, y) for x, y in zip(before, before[1:])] + [ONE]
+
+
+def counts(side, n):
+    """The counts of orders C(n,0) to C(n,n)."""
+    if n > EXACT_ASSETS:
+        return summed_counts(side, n)
+    return [rounded(side, comb(n, j)) for j in range(n + 1)]
+
+
 def row_chances(side, row):
     """The chances of 0 to n defaults, from row n."""
-    n = len(row) - 1
-    return [product(side, rounded(side, comb(n, j)), row[j]) for j in range(n + 1)]
+    return [product(side, count, entry) for count, entry in zip(counts(side, len(row) - 1), row)]
 
 
-@lru_cache(maxsize=None)
+@lru_cache(maxsize=256)
 def steps(side, n, p, rho):
     """Rows 0 to n, and the chances of 0 to n defaults."""
     p_, a, rho_, q = (rounded(side, x, WHOLE) for x in (p, WHOLE - p, rho, WHOLE - rho))
@@ -53,7 +72,7 @@ def beta_quotients(n, j, p, rho):
     ]
 
 
-@lru_cache(maxsize=None)
+@lru_cache(maxsize=256)
 def beta_steps(side, n, p, rho):
     """Row n of the beta-binomial as the only row, and the chances of 0 to n defaults."""
     row = [
@@ -135,13 +154,18 @@ def first(grounds):
     return next((number for number, applies in grounds if applies), 0)
 
 
-def assets_ground(n):
-    return [(1, n == 0 or n > LARGEST_POOL)]
+def assets_ground(n, most=LARGEST_POOL):
+    return [(1, n == 0 or n > most)]
 
 
-def pool_grounds(n, p, rho, screen=False):
+def pool_grounds(n, p, rho, screen=False, most=LARGEST_POOL):
     """With 11 directly after 1 on the quote screen."""
-    return assets_ground(n) + [(11, n > SCREEN_POOL)] * screen + [(2, p > WHOLE), (3, rho > WHOLE)]
+    return assets_ground(n, most) + [(11, n > SCREEN_POOL)] * screen + [(2, p > WHOLE), (3, rho > WHOLE)]
+
+
+def report_grounds(n, p, rho):
+    """Of a shift list, and of the program column."""
+    return pool_grounds(n, p, rho, most=REPORT_POOL)
 
 
 def store_ground(n, lengths):
@@ -160,17 +184,17 @@ def entries_ground(number, n, entries):
     return [(number, entries < n + 1)]
 
 
-def entries_refusal(number, n, p, rho, lengths, entries, screen=False):
-    """Of a call that writes entries 0 to n to a slice beside the store."""
-    return first(pool_grounds(n, p, rho, screen) + store_ground(n, lengths) + entries_ground(number, n, entries))
+def entries_refusal(grounds, number, n, lengths, entries):
+    """Of a call that writes entries 0 to n to a slice beside the store, with the grounds that it tries before these."""
+    return first(grounds + store_ground(n, lengths) + entries_ground(number, n, entries))
 
 
 def column_refusal(n, p, rho, lengths, units, screen=False):
-    return entries_refusal(8, n, p, rho, lengths, units, screen)
+    return entries_refusal(pool_grounds(n, p, rho, screen), 8, n, lengths, units)
 
 
 def shift_refusal(n, p, rho, lengths, entries):
-    return entries_refusal(10, n, p, rho, lengths, entries)
+    return entries_refusal(report_grounds(n, p, rho), 10, n, lengths, entries)
 
 
 def tranche_grounds(recovery, lower, upper):

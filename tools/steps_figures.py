@@ -5,7 +5,7 @@ stops at the first that neither Cases.antt nor BetaBinomial/Cases.antt in crates
 """
 from pathlib import Path
 
-from pools import beta_steps, loss, printed_rows, printed_tails, shifts, steps, tails
+from pools import beta_steps, loss, printed_rows, printed_tails, shifts, steps, summed_counts, tails
 
 SPECS = Path(__file__).parent.parent / "crates/steps/specs"
 CASES = (SPECS / "Cases.antt").read_text() + (SPECS / "BetaBinomial/Cases.antt").read_text()
@@ -34,6 +34,8 @@ def main():
     for k in range(1, 4):
         digits(f"tailOf 3 1000 3000 {k}", lambda side: tails(side, made[side][1])[k])
     digits("threeLoss 1000 3000 (lit< tt)", lambda side: loss(side, made[side][1], 4000, 1000, 3000))
+    for j in range(5):
+        digits(f"λ side. summedCount side 4 {j}", lambda side: summed_counts(side, 4)[j])
     rows, printed = printed_rows(made[0][1]), printed_tails(made[0][1])
     for k in range(4):
         line(f"(rowOf 3 1000 3000 {k} ≡ {rows[k]})")

@@ -8,7 +8,7 @@ import re
 import sys
 
 from exact import hold_column
-from pools import first, pool_grounds, printed_rows, printed_tails, steps
+from pools import first, printed_rows, printed_tails, report_grounds, steps
 
 # The bytes of crates/trial_column_lines/stdin.
 INPUT = b"00003 01000 03000\n" + b"x" * 46 + b"3 1000 3000\n"
@@ -82,6 +82,12 @@ INPUTS = [
     b"6 5000 0\n",
     b"2 50 0\n",
     b"2 1150 0\n",
+    # Pools that the library accepts, and the first that it refuses.
+    b"66 1000 3000\n",
+    b"100 1000 3000\n",
+    b"100 0 0\n",
+    b"101 1000 3000\n",
+    b"100 10001 10001\n",
 ]
 
 
@@ -97,7 +103,7 @@ def answer(data):
     if fields is None:
         return ["refused line"]
     pool = [int(field) for field in fields.groups()]
-    number = first(pool_grounds(*pool))
+    number = first(report_grounds(*pool))
     return [f"refused {number}"] if number > 0 else table(*pool)
 
 

@@ -1,20 +1,23 @@
-"""The lines that crates/trial_pool prints of a call, by tools/pools.py. Every column, every shift list and every loss is held to
-the exact model, and on the screen and of the beta-binomial every bound.
+"""The lines that crates/trial_pool prints of a call, by tools/pools.py. Every bound, every column, every shift list and every loss
+is held to the exact model.
 
 A library is "" (the one of the pool), "screen" or "beta"; a tranche is a recovery and two attachments."""
 from fractions import Fraction
 
-from exact import BETA, MOODY, hold_bounds, hold_column, hold_loss, hold_quotients, hold_same, hold_shifts
+from exact import BETA, MOODY, hold_bounds, hold_column, hold_loss, hold_quotients, hold_same, hold_shifts, library_parts
+from exact import screen_parts
 from kept import value
-from pools import TRANCHES, UNITS, WHOLE, beta_column_refusal, beta_loss_refusal, column_refusal, fill_refusal, loss
-from pools import loss_answer, loss_refusal, printed_rows, row_refusal, shift_refusal, shifts, tails
+from pools import LARGEST_POOL, REPORT_POOL, SCREEN_POOL, TRANCHES, UNITS, WHOLE, beta_column_refusal, beta_loss_refusal
+from pools import column_refusal, fill_refusal, loss, loss_answer, loss_refusal, printed_rows, row_refusal, shift_refusal, shifts
+from pools import tails
 from trial_support import SEED, checksum, following, line
 
-PLACES = 2150
-ROWS = 70
+# The places of a store and of a list that are lent where enough are: for up to 64 assets, and for more.
+PLACES, LARGE_PLACES = 2150, 5156
+ROWS, LARGE_ROWS = 70, 106
 MARK = 1000000007
 INTEGER_MARK = 1000007
-AMPLE = [PLACES] * 4
+WHOLE_ARRAYS = [LARGE_PLACES] * 4
 STORES = [(1, 3), (3, 10), (64, 2145)]
 OTHERS = [(10, 500, 250), (2, 500, 250), (64, 10000, 10000)]
 HALF_WAY = [
@@ -23,6 +26,11 @@ HALF_WAY = [
 ]
 # A tranche that 4, 5 and 6 refuse.
 REFUSED = (WHOLE + 1, WHOLE + 1, WHOLE + 1)
+# Eight recoveries. Some tranches overlap, some touch, and two are untouched in every pool.
+SPREAD = [
+    (4000, 1000, 3000), (10000, 0, 10000), (2500, 3000, 7000), (7000, 2000, 5000), (0, 0, 10000), (6000, 4000, 10000),
+    (9999, 0, 1), (5000, 4999, 5000),
+]
 
 
 def made(n, p, rho, model=MOODY):
@@ -30,8 +38,26 @@ def made(n, p, rho, model=MOODY):
     return [model.steps(side, n, p, rho) for side in (0, 1)]
 
 
-def array_word(numbers, mark, length):
-    """The checksum of an array that starts with these numbers, before the marks."""
+def held(n, p, rho):
+    """The same of an accepted pool, with every bound held to the exact model."""
+    hold_bounds(n, p, rho)
+    return made(n, p, rho)
+
+
+def beyond(call=""):
+    """The fewest assets that a call refuses by 1."""
+    return (REPORT_POOL if call == "shifts" else LARGEST_POOL) + 1
+
+
+def ample(n, call="", other=()):
+    """Enough places of a store: of a pool that is accepted, and of one that the arrays hold."""
+    return WHOLE_ARRAYS if 64 < n < beyond(call) or other and other[0] > 64 else [PLACES] * 4
+
+
+def array_word(numbers, mark, lent, few, whole):
+    """The checksum of an array that starts with these numbers, before the marks: of the few places, or of all where more are
+    lent."""
+    length = few if lent <= few else whole
     return checksum(numbers + [mark] * (length - len(numbers)), signed=mark == INTEGER_MARK)
 
 
@@ -40,20 +66,24 @@ def places(filled, side, part):
     return [x[part] for row in filled[side][0] for x in row] if filled else []
 
 
-def store_words(filled, before=()):
+def store_words(filled, lengths, before=()):
     """The checksums of the four arrays: what was filled stands before what they held before, and that before the marks."""
     words = ["slices"]
     for part, mark in enumerate((MARK, INTEGER_MARK)):
         for side in (0, 1):
             new, old = places(filled, side, part), places(before, side, part)
-            words.append(array_word(new + old[len(new):], mark, PLACES))
+            words.append(array_word(new + old[len(new):], mark, lengths[2 * part + side], PLACES, LARGE_PLACES))
     return words
 
 
-def fill(n, p, rho, lengths=AMPLE):
+def fill_words(n, p, rho, lengths, before=()):
     refusal = fill_refusal(n, p, rho, lengths)
-    filled = [] if refusal else made(n, p, rho)
-    line("fill", n, p, rho, "lengths", *lengths, "refusal", refusal, *store_words(filled))
+    return ["refusal", refusal, *store_words([] if refusal else held(n, p, rho), lengths, before)]
+
+
+def fill(n, p, rho, lengths=None):
+    lengths = lengths or ample(n)
+    line("fill", n, p, rho, "lengths", *lengths, *fill_words(n, p, rho, lengths))
 
 
 def row(n, k, length):
@@ -64,18 +94,18 @@ def row(n, k, length):
     line("row", n, k, "length", length, "refusal", refusal, "part", *part)
 
 
-def filled_row(n, p, rho, k):
-    """Row k of the low significands of a filled store."""
-    part = [] if row_refusal(n, k, PLACES) else [x[0] for x in made(n, p, rho)[0][0][k]]
-    line("filled", n, p, rho, "row", k, "part", len(part), *part)
+def filled_row(n, p, rho, k, reader=0):
+    """Row k of the low significands of a filled store, read as one of another pool where there is one."""
+    part = [] if row_refusal(reader or n, k, LARGE_PLACES) else [x[0] for x in made(n, p, rho)[0][0][k]]
+    line("filled", n, p, rho, "row", k, *["of", reader] * (reader > 0), "part", len(part), *part)
 
 
 def hold_screen(refusal, n, p, rho):
     """What the screen promises: bounds at most one part in 1,000,000 apart, and 11 where it has more than 20 assets and 1 does not
     apply."""
-    assert (refusal == 11) == (20 < n <= 64)
+    assert (refusal == 11) == (SCREEN_POOL < n <= LARGEST_POOL)
     if not refusal:
-        hold_bounds(1000000, n, p, rho)
+        hold_bounds(n, p, rho, parts=screen_parts)
 
 
 def beta_models(n, rho):
@@ -90,11 +120,11 @@ def hold_beta(n, p, rho):
     if MOODY in models:
         hold_same(n, p, rho)
     for model in models:
-        hold_bounds(100000, n, p, rho, model)
+        hold_bounds(n, p, rho, model)
 
 
-def row_words(refusal, rows):
-    return ["refusal", refusal, *rows, "rows", array_word(rows, MARK, ROWS)]
+def row_words(refusal, rows, units):
+    return ["refusal", refusal, *rows, "rows", array_word(rows, MARK, units, ROWS, LARGE_ROWS)]
 
 
 def column_words(n, p, rho, lengths, units, before=(), screen=False):
@@ -102,20 +132,21 @@ def column_words(n, p, rho, lengths, units, before=(), screen=False):
     if screen:
         hold_screen(refusal, n, p, rho)
         assert refusal in (11, column_refusal(n, p, rho, lengths, units))
-    filled = [] if refusal else made(n, p, rho)
+    filled = [] if refusal else held(n, p, rho)
     rows = [] if refusal else printed_rows(filled[0][1])
     if not refusal:
         hold_column(n, p, rho)
-    return row_words(refusal, rows) + store_words(filled, before)
+    return row_words(refusal, rows, units) + store_words(filled, lengths, before)
 
 
 def shift_words(n, p, rho, lengths, entries, before=()):
     refusal = shift_refusal(n, p, rho, lengths, entries)
-    filled = [] if refusal else made(n, p, rho)
+    filled = [] if refusal else held(n, p, rho)
     listed = [] if refusal else shifts(filled[0][1], made(n, p, 0)[0][1])
     if not refusal:
         hold_shifts(n, p, rho)
-    return ["refusal", refusal, *listed, "list", array_word(listed, INTEGER_MARK, ROWS), *store_words(filled, before)]
+    word = array_word(listed, INTEGER_MARK, entries, ROWS, LARGE_ROWS)
+    return ["refusal", refusal, *listed, "list", word, *store_words(filled, lengths, before)]
 
 
 def screen_words(*given):
@@ -125,24 +156,30 @@ def screen_words(*given):
 def beta_words(n, p, rho, lengths, units):
     refusal = beta_column_refusal(n, p, rho, units)
     if refusal:
-        return row_words(refusal, [])
+        return row_words(refusal, [], units)
     hold_beta(n, p, rho)
     hold_column(n, p, rho, BETA)
-    return row_words(refusal, printed_rows(made(n, p, rho, BETA)[0][1]))
+    return row_words(refusal, printed_rows(made(n, p, rho, BETA)[0][1]), units)
 
 
 LISTS = {"column": column_words, "shifts": shift_words, "screen column": screen_words, "beta column": beta_words}
 
 
-def listed(call, n, p, rho, lengths=AMPLE, entries=ROWS):
+def listed(call, n, p, rho, lengths=None, entries=ROWS):
     """A call that leaves entries 0 to n in a slice. That of the beta-binomial is lent no store."""
+    lengths = lengths or ample(n, call)
     given = ["length", entries] if call == "beta column" else ["lengths", *lengths, entries]
     line(call, n, p, rho, *given, *LISTS[call](n, p, rho, lengths, entries))
 
 
-def listed_over(call, other, n, p, rho):
-    """The same on slices that hold another pool's store."""
-    line("over", *other, call, n, p, rho, *LISTS[call](n, p, rho, AMPLE, ROWS, made(*other)))
+def fill_over(other, n, p, rho):
+    """A fill of slices that hold another pool's store."""
+    line("over", *other, "fill", n, p, rho, *fill_words(n, p, rho, ample(n, other=other), made(*other)))
+
+
+def listed_over(call, other, n, p, rho, entries=ROWS):
+    """The same of a call that leaves a list."""
+    line("over", *other, call, n, p, rho, *LISTS[call](n, p, rho, ample(n, call, other), entries, made(*other)))
 
 
 def lengths_of(exact):
@@ -165,21 +202,24 @@ def list_lengths(call, n, exact):
 
 def list_pools(call):
     for pool in [
-        (3, 1000, 3000), (0, 1000, 3000), (64, 1000, 3000), (65, 1000, 3000), (3, 10001, 3000), (3, 1000, 10001),
-        (65, 10001, 10001), (3, 10001, 10001),
+        (3, 1000, 3000), (0, 1000, 3000), (64, 1000, 3000), (beyond(call), 1000, 3000), (3, 10001, 3000), (3, 1000, 10001),
+        (beyond(call), 10001, 10001), (3, 10001, 10001),
     ]:
         listed(call, *pool)
 
 
-def list_corners(call, n):
+def corners():
     """Probability and correlation at and next to their ends."""
-    for p in (0, 1, 9999, 10000):
-        for rho in (0, 1, 9999, 10000):
-            listed(call, n, p, rho)
+    return [(p, rho) for p in (0, 1, 9999, 10000) for rho in (0, 1, 9999, 10000)]
+
+
+def list_corners(call, n):
+    for p, rho in corners():
+        listed(call, n, p, rho)
 
 
 def no_places(call):
-    for pool in [(65, 1000, 3000), (3, 10001, 3000), (3, 1000, 10001)]:
+    for pool in [(beyond(call), 1000, 3000), (3, 10001, 3000), (3, 1000, 10001)]:
         listed(call, *pool, [0] * 4, 0)
 
 
@@ -209,7 +249,7 @@ def lists(call):
     no_places(call)
     for other in OTHERS:
         listed_over(call, other, 3, 1000, 3000)
-    listed_over(call, OTHERS[0], 65, 1000, 3000)
+    listed_over(call, OTHERS[0], beyond(call), 1000, 3000)
     list_half_way(call)
 
 
@@ -217,7 +257,7 @@ def held_loss(library, n, p, rho, *tranche):
     """The loss of a tranche, held to the exact one."""
     models = beta_models(n, rho) if library == "beta" else [MOODY]
     for model in models:
-        hold_loss(1000000 if library == "screen" else 100000, n, p, rho, *tranche, model)
+        hold_loss(n, p, rho, *tranche, model, screen_parts if library == "screen" else library_parts)
     return loss_answer(*(loss(side, models[0].steps(side, n, p, rho)[1], *tranche) for side in (0, 1)))
 
 
@@ -235,27 +275,28 @@ def losses_of(library, n, p, rho, tranches, count, lengths):
     return refusal, [] if refusal else [held_loss(library, n, p, rho, *tranche) for tranche in tranches[:count]]
 
 
-def loss_line(name, library, pool, given, tranches, count, lengths=AMPLE, other=()):
+def loss_line(name, library, pool, given, tranches, count, lengths=None, other=()):
     """A loss call, on marked slices or on slices that hold another pool's store. That of the beta-binomial is lent no store. Gives
     what it answers."""
+    lengths = lengths or ample(pool[0], other=other)
     refusal, losses = losses_of(library, *pool, tranches, count, lengths)
     words = ["over", *other] if other else []
     words += [library] * (library != "") + [name, *pool, *given]
     words += ["lengths", *lengths] if library != "beta" and not other else []
     words += ["refusal", refusal] if refusal else [word for answer in losses for word in answer]
     if library != "beta":
-        words += store_words([] if refusal else made(*pool), made(*other) if other else ())
+        words += store_words([] if refusal else held(*pool), lengths, made(*other) if other else ())
     line(*words)
     return refusal, losses
 
 
-def tranche_loss(n, p, rho, recovery, lower, upper, lengths=AMPLE, library="", other=()):
+def tranche_loss(n, p, rho, recovery, lower, upper, lengths=None, library="", other=()):
     """The loss of one tranche. The records behind it would be refused."""
     tranches = [(recovery, lower, upper)] + [REFUSED] * (TRANCHES - 1)
     loss_line("loss", library, (n, p, rho), [recovery, "tranche", lower, upper], tranches, 1, lengths, other)
 
 
-def tranche_losses(library, pool, tranches, count, lengths=AMPLE, other=()):
+def tranche_losses(library, pool, tranches, count, lengths=None, other=()):
     """The losses of several tranches. Gives what the call answers."""
     assert len(tranches) == TRANCHES
     within, past = ([number for tranche in part for number in tranche] for part in (tranches[:count], tranches[count:]))
@@ -272,17 +313,17 @@ def basis_points(word):
     return rest % 400 if kind < 12 else rest % 10001
 
 
-def assets(word):
+def assets(word, beyond):
     kind, rest = word % 16, word >> 8
     if kind < 2:
-        return (0, 65)[kind]
+        return (0, beyond)[kind]
     if kind < 6:
         return 60 + rest % 5
     return 1 + rest % (64 if kind < 8 else 20)
 
 
-def random_pool(word):
-    n, second = assets(word), following(word)
+def random_pool(word, beyond=LARGEST_POOL + 1):
+    n, second = assets(word, beyond), following(word)
     p, rho = (1, 0) if n > 55 and second % 2 == 0 else (basis_points(second), basis_points(following(second)))
     return n, p, rho
 
@@ -291,6 +332,17 @@ def small_pool(word):
     """Of 1 to 20 assets."""
     second = following(word)
     return 1 + (word >> 8) % 20, basis_points(second), basis_points(following(second))
+
+
+def report_pool(word):
+    """Of a shift list."""
+    return random_pool(word, REPORT_POOL + 1)
+
+
+def large_pool(word):
+    """Of 65 to 100 assets, with probability and correlation brought into range."""
+    second = following(word)
+    return 65 + (word >> 8) % 36, basis_points(second) % (WHOLE + 1), basis_points(following(second)) % (WHOLE + 1)
 
 
 def random_tranche(word):
@@ -318,11 +370,11 @@ def random_cases(count, random_pool=random_pool):
         word = following(word, 7)
 
 
-def random_losses(count):
-    """Two pools, the second of 1 to 20 assets; eight tranches and a count from 0 to 10."""
+def random_losses(count, pools=(random_pool, small_pool)):
+    """Pools, eight tranches and a count from 0 to 10."""
     word = SEED
     for _ in range(count):
         fourth = following(word, 3)
         tranches = [likely_tranche(following(fourth, 1 + 4 * i)) for i in range(TRANCHES)]
-        yield random_pool(word), small_pool(word), tranches, (fourth >> 8) % 11
+        yield *(pool(word) for pool in pools), tranches, (fourth >> 8) % 11
         word = following(word, 36)

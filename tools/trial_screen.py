@@ -2,32 +2,32 @@
 
     python3 tools/trial_screen.py > crates/trial_screen/stdout
 """
-from trial_pool import AMPLE, OTHERS, ROWS, lengths_of, list_lengths, listed, lists, longer, random_cases, small_pool
+from trial_pool import LARGE_ROWS, OTHERS, ROWS, lengths_of, list_lengths, listed, lists, longer, random_cases, small_pool
 from trial_pool import tranche_loss
 
 NONE = [0] * 4
 LARGEST = 2**32 - 1
 
 
-def column(n, p=1000, rho=3000, lengths=AMPLE, units=ROWS):
+def column(n, p=1000, rho=3000, lengths=None, units=ROWS):
     listed("screen column", n, p, rho, lengths, units)
 
 
-def loss(n, recovery, lower, upper, p=1000, rho=3000, lengths=AMPLE, other=()):
+def loss(n, recovery, lower, upper, p=1000, rho=3000, lengths=None, other=()):
     tranche_loss(n, p, rho, recovery, lower, upper, lengths, "screen", other)
 
 
-def around(n):
-    column(n)
+def around(n, units=ROWS):
+    column(n, units=units)
     loss(n, 4000, 1000, 3000)
     column(n, 10001, 10001, NONE, 0)
     loss(n, 10001, 10001, 10001, 10001, 10001, NONE)
 
 
-def each_wrong(n):
-    column(n, p=10001)
-    column(n, rho=10001)
-    column(n, lengths=NONE)
+def each_wrong(n, units=ROWS):
+    column(n, p=10001, units=units)
+    column(n, rho=10001, units=units)
+    column(n, lengths=NONE, units=units)
     column(n, units=0)
     loss(n, 0, 0, 10000, p=10001)
     loss(n, 0, 0, 10000, rho=10001)
@@ -59,10 +59,13 @@ def losses(n, exact):
         loss(n, 4000, 1000, 3000, other=other)
 
 
-for n in (0, 1, 20, 21, 64, 65, LARGEST):
+for n in (0, 1, 20, 21, 64, 101, LARGEST):
     around(n)
-for n in (20, 21, 64, 65):
+for n in (20, 21, 64, 101):
     each_wrong(n)
+for n in (65, 100):
+    around(n, LARGE_ROWS)
+    each_wrong(n, LARGE_ROWS)
 two_wrong(20)
 lists("screen column")
 list_lengths("screen column", 20, 231)

@@ -2,16 +2,12 @@
 
     python3 tools/trial_tranches.py > crates/trial_tranches/stdout
 """
-from trial_pool import OTHERS, REFUSED, lengths_of, longer, random_losses, tranche_losses
+from trial_pool import OTHERS, REFUSED, SPREAD, lengths_of, longer, random_losses, tranche_losses
 
 LIBRARIES = ["", "screen", "beta"]
 NONE = [0] * 4
 LARGEST = 2**32 - 1
 THREE = (3, 1000, 3000)
-SPREAD = [
-    (4000, 1000, 3000), (10000, 0, 10000), (2500, 3000, 7000), (7000, 2000, 5000), (0, 0, 10000), (6000, 4000, 10000),
-    (9999, 0, 1), (5000, 4999, 5000),
-]
 FAINT = [
     (0, 9999, 10000), (4786, 4905, 6699), (0, 0, 10000), (8871, 1062, 1453), (10000, 0, 10000), (2845, 6731, 9192),
     (0, 9999, 10000), (3023, 6563, 8978),
@@ -65,7 +61,7 @@ def order(library):
     """The count wrong, then also every tranche, and no places; every tranche wrong and no places; no places, also with a wrong
     count. Before each pool stands what the library, the screen and the beta-binomial refuse it by."""
     for *numbers, pool in [
-        (1, 1, 1, (0, 1000, 3000)), (1, 1, 1, (65, 1000, 3000)), (0, 11, 0, (21, 1000, 3000)), (0, 11, 12, (64, 1000, 10000)),
+        (1, 1, 1, (0, 1000, 3000)), (1, 1, 1, (101, 1000, 3000)), (0, 11, 0, (21, 1000, 3000)), (0, 11, 12, (64, 1000, 10000)),
         (2, 2, 2, (3, 10001, 3000)), (3, 3, 3, (3, 1000, 10001)), (0, 0, 12, (3, 1000, 10000)), (1, 1, 1, (0, 10001, 10001)),
         (0, 0, 0, THREE),
     ]:

@@ -1,3 +1,2 @@
-pub mod Counts
 pub mod Chances
 pub mod Tails

@@ -1,14 +1,11 @@
-// Steps 4 and 5, over any row of entries: counts of orders, chances, tails, the printed column. Nothing here knows the model that a
-// row comes from.
+// Steps 4 and 5, over any row of entries: chances, tails, the printed column. Nothing here knows the model that a row comes from.
 use kept::Kept;
 use kept::Side;
+use order_counts::counts;
 use working::PLACES;
 ghost use Rattle.chances.specs.Chances.{StepsReady, ChancesMade};
 
-mod counts;
 pub mod tails;
-
-use counts::counts;
 
 // The chances of 0 to n defaults in any order, from the entries of row n.
 pub fn chances(n: u32, row: [Kept; PLACES], side: Side) -> [Kept; PLACES]

@@ -33,13 +33,13 @@ pub fn fill(
 }
 
 pub fn row(n: u32, k: u32, significands: &[u32]) -> &[u32]
-    ensures { λ r. ⌜ ((refusal : ℕ) → refusal ≡ firstGround (rowGrounds 64 n k (length (now (significands .entry)))) → RowDemands n k (now (significands .entry)) (now r) refusal) ⌝ }
+    ensures { λ r. ⌜ ((refusal : ℕ) → refusal ≡ firstGround (rowGrounds 100 n k (length (now (significands .entry)))) → RowDemands n k (now (significands .entry)) (now r) refusal) ⌝ }
 {
     pool::row(n, k, significands)
 }
 
 pub fn row_refusal(n: u32, k: u32, significands: &[u32]) -> u32
-    ensures { λ r. ⌜ r ≡ firstGround (rowGrounds 64 n k (length (now (significands .entry)))) ⌝ }
+    ensures { λ r. ⌜ r ≡ firstGround (rowGrounds 100 n k (length (now (significands .entry)))) ⌝ }
 {
     pool::row_refusal(n, k, significands)
 }

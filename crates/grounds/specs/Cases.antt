@@ -1,5 +1,5 @@
 -- The grounds in figures: each for every input, those that each call checks, in order, for each ground of the library inputs to which it alone applies, what
--- a loss call answers by its tranches and their count, what the screen answers around its ceiling, and what the beta-binomial answers around full correlation.
+-- a loss call answers by its tranches and their count, what the screen, a shift list and the program `column` answer around their ceilings, and what the beta-binomial answers around full correlation.
 -- Assumes nothing.
 use Prim.Native.Nat.{ℕ, suc, _+_, _*_, _/_}
 use mathlib.Core.Path.{_≡_, refl}
@@ -9,7 +9,7 @@ use lib.Dec.{eqb, ltb}
 use lib.ListN.{take, replicate}
 use Rattle.model.specs.Fraction.{whole}
 use Rattle.steps.specs.declared.Tranche.{Tranche}
-use Rattle.steps.specs.Inputs.{largestPool, screenPool}
+use Rattle.steps.specs.Inputs.{largestPool, reportPool, screenPool}
 use Rattle.steps.specs.Tranches.{tranchePlaces}
 use Rattle.grounds.specs.Grounds.{Ground, firstOf, firstGround, storePlaces, someShorter, assetsGround, probabilityGround, correlationGround, recoveryGround, upperGround}
 use Rattle.grounds.specs.Grounds.{attachmentsGround, storeGround, entriesGround, rowGround, screenGround, fullCorrelationGround, countGround, poolGrounds}
@@ -26,7 +26,8 @@ first m gs = (refl, refl, refl)
 
 -- Each ground in figures, for every input.
 pub figures : (n p ρ R A B k units shifts count : ℕ) (lengths : List ℕ)
-    → (assetsGround largestPool n ≡ record { number = 1; applies = eqb n 0 || ltb 64 n })
+    → (assetsGround largestPool n ≡ record { number = 1; applies = eqb n 0 || ltb 100 n })
+    × (assetsGround reportPool n ≡ record { number = 1; applies = eqb n 0 || ltb 64 n })
     × (probabilityGround p ≡ record { number = 2; applies = ltb 10000 p })
     × (correlationGround ρ ≡ record { number = 3; applies = ltb 10000 ρ })
     × (recoveryGround R ≡ record { number = 4; applies = ltb 10000 R })
@@ -39,8 +40,8 @@ pub figures : (n p ρ R A B k units shifts count : ℕ) (lengths : List ℕ)
     × (screenGround screenPool n ≡ record { number = 11; applies = ltb 20 n })
     × (fullCorrelationGround ρ ≡ record { number = 12; applies = eqb ρ 10000 })
     × (countGround count ≡ record { number = 13; applies = eqb count 0 || ltb 8 count })
-unfolding assetsGround probabilityGround correlationGround recoveryGround upperGround attachmentsGround storeGround entriesGround rowGround screenGround fullCorrelationGround countGround storePlaces tranchePlaces largestPool screenPool whole
-figures n p ρ R A B k units shifts count lengths = (refl, refl, refl, refl, refl, refl, refl, refl, refl, refl, refl, refl, refl)
+unfolding assetsGround probabilityGround correlationGround recoveryGround upperGround attachmentsGround storeGround entriesGround rowGround screenGround fullCorrelationGround countGround storePlaces tranchePlaces largestPool reportPool screenPool whole
+figures n p ρ R A B k units shifts count lengths = (refl, refl, refl, refl, refl, refl, refl, refl, refl, refl, refl, refl, refl, refl)
 
 -- The grounds that each call checks, in order, with what it is given.
 pub orders : (most limit n p ρ k length units shifts count : ℕ) (t : Tranche) (ts : List Tranche) (lengths : List ℕ)
@@ -83,20 +84,20 @@ slices places last = places ∷ places ∷ places ∷ last ∷ []
 -- At the edge of every ground none applies, and one past it each alone.
 pub table :
     (refusing 1 0 0 1 0 0 1 (slices 3 3) 2 1 2 ≡ [])
-    × (refusing 64 10000 10000 8 10000 9999 10000 (slices 2145 2145) 65 64 65 ≡ [])
+    × (refusing 100 10000 10000 8 10000 9999 10000 (slices 5151 5151) 101 100 101 ≡ [])
     × (refusing 0 0 0 1 0 0 1 (slices 3 3) 2 0 1 ≡ 1 ∷ [])
-    × (refusing 65 10000 10000 8 10000 9999 10000 (slices 2211 2211) 66 64 66 ≡ 1 ∷ [])
-    × (refusing 64 10001 10000 8 10000 9999 10000 (slices 2145 2145) 65 64 65 ≡ 2 ∷ [])
-    × (refusing 64 10000 10001 8 10000 9999 10000 (slices 2145 2145) 65 64 65 ≡ 3 ∷ [])
-    × (refusing 64 10000 10000 0 10000 9999 10000 (slices 2145 2145) 65 64 65 ≡ 13 ∷ [])
-    × (refusing 64 10000 10000 9 10000 9999 10000 (slices 2145 2145) 65 64 65 ≡ 13 ∷ [])
-    × (refusing 64 10000 10000 8 10001 9999 10000 (slices 2145 2145) 65 64 65 ≡ 4 ∷ [])
-    × (refusing 64 10000 10000 8 10000 9999 10001 (slices 2145 2145) 65 64 65 ≡ 5 ∷ [])
-    × (refusing 64 10000 10000 8 10000 10000 10000 (slices 2145 2145) 65 64 65 ≡ 6 ∷ [])
-    × (refusing 64 10000 10000 8 10000 9999 10000 (slices 2145 2144) 65 64 65 ≡ 7 ∷ [])
-    × (refusing 64 10000 10000 8 10000 9999 10000 (slices 2145 2145) 64 64 65 ≡ 8 ∷ [])
-    × (refusing 64 10000 10000 8 10000 9999 10000 (slices 2145 2145) 65 65 65 ≡ 9 ∷ [])
-    × (refusing 64 10000 10000 8 10000 9999 10000 (slices 2145 2145) 65 64 64 ≡ 10 ∷ [])
+    × (refusing 101 10000 10000 8 10000 9999 10000 (slices 5253 5253) 102 100 102 ≡ 1 ∷ [])
+    × (refusing 100 10001 10000 8 10000 9999 10000 (slices 5151 5151) 101 100 101 ≡ 2 ∷ [])
+    × (refusing 100 10000 10001 8 10000 9999 10000 (slices 5151 5151) 101 100 101 ≡ 3 ∷ [])
+    × (refusing 100 10000 10000 0 10000 9999 10000 (slices 5151 5151) 101 100 101 ≡ 13 ∷ [])
+    × (refusing 100 10000 10000 9 10000 9999 10000 (slices 5151 5151) 101 100 101 ≡ 13 ∷ [])
+    × (refusing 100 10000 10000 8 10001 9999 10000 (slices 5151 5151) 101 100 101 ≡ 4 ∷ [])
+    × (refusing 100 10000 10000 8 10000 9999 10001 (slices 5151 5151) 101 100 101 ≡ 5 ∷ [])
+    × (refusing 100 10000 10000 8 10000 10000 10000 (slices 5151 5151) 101 100 101 ≡ 6 ∷ [])
+    × (refusing 100 10000 10000 8 10000 9999 10000 (slices 5151 5150) 101 100 101 ≡ 7 ∷ [])
+    × (refusing 100 10000 10000 8 10000 9999 10000 (slices 5151 5151) 100 100 101 ≡ 8 ∷ [])
+    × (refusing 100 10000 10000 8 10000 9999 10000 (slices 5151 5151) 101 101 101 ≡ 9 ∷ [])
+    × (refusing 100 10000 10000 8 10000 9999 10000 (slices 5151 5151) 101 100 100 ≡ 10 ∷ [])
 unfolding assetsGround probabilityGround correlationGround recoveryGround upperGround attachmentsGround storeGround entriesGround rowGround countGround storePlaces someShorter tranchePlaces largestPool whole
 table = (refl, refl, refl, refl, refl, refl, refl, refl, refl, refl, refl, refl, refl, refl, refl)
 
@@ -111,42 +112,59 @@ abbrev refused : Tranche
 refused = tranche 10001 10001 10001
 
 abbrev loss : (ρ : ℕ) (ts : List Tranche) (count places : ℕ) → ℕ
-loss ρ ts count places = firstGround (lossGrounds largestPool 64 10000 ρ ts count (slices places places))
+loss ρ ts count places = firstGround (lossGrounds largestPool 100 10000 ρ ts count (slices places places))
 
 -- The count at its edges, and with what is checked before and after it wrong; then tranches one after the other, up to the count.
 pub tranches-table :
-    (loss 10000 (replicate 8 accepted) 1 2145 ≡ 0)
-    × (loss 10000 (replicate 8 accepted) 8 2145 ≡ 0)
-    × (loss 10000 (replicate 8 accepted) 0 2145 ≡ 13)
-    × (loss 10000 (replicate 8 accepted) 9 2145 ≡ 13)
-    × (loss 10000 (replicate 8 accepted) 4294967295 2145 ≡ 13)
-    × (loss 10000 (replicate 8 refused) 0 2144 ≡ 13)
-    × (loss 10000 (replicate 8 refused) 9 2144 ≡ 13)
-    × (loss 10000 (replicate 8 accepted) 9 2144 ≡ 13)
-    × (loss 10001 (replicate 8 refused) 9 2144 ≡ 3)
-    × (loss 10000 (replicate 8 refused) 1 2144 ≡ 4)
-    × (loss 10000 (accepted ∷ replicate 7 refused) 1 2145 ≡ 0)
-    × (loss 10000 (accepted ∷ replicate 7 refused) 1 2144 ≡ 7)
-    × (loss 10000 (accepted ∷ replicate 7 refused) 2 2144 ≡ 4)
-    × (loss 10000 (tranche 10000 10000 10000 ∷ replicate 7 refused) 8 2144 ≡ 6)
-    × (loss 10000 (tranche 10000 10000 10001 ∷ replicate 7 refused) 8 2144 ≡ 5)
-    × (loss 10000 (replicate 7 accepted ++ (refused ∷ [])) 7 2145 ≡ 0)
-    × (loss 10000 (replicate 7 accepted ++ (refused ∷ [])) 8 2144 ≡ 4)
+    (loss 10000 (replicate 8 accepted) 1 5151 ≡ 0)
+    × (loss 10000 (replicate 8 accepted) 8 5151 ≡ 0)
+    × (loss 10000 (replicate 8 accepted) 0 5151 ≡ 13)
+    × (loss 10000 (replicate 8 accepted) 9 5151 ≡ 13)
+    × (loss 10000 (replicate 8 accepted) 4294967295 5151 ≡ 13)
+    × (loss 10000 (replicate 8 refused) 0 5150 ≡ 13)
+    × (loss 10000 (replicate 8 refused) 9 5150 ≡ 13)
+    × (loss 10000 (replicate 8 accepted) 9 5150 ≡ 13)
+    × (loss 10001 (replicate 8 refused) 9 5150 ≡ 3)
+    × (loss 10000 (replicate 8 refused) 1 5150 ≡ 4)
+    × (loss 10000 (accepted ∷ replicate 7 refused) 1 5151 ≡ 0)
+    × (loss 10000 (accepted ∷ replicate 7 refused) 1 5150 ≡ 7)
+    × (loss 10000 (accepted ∷ replicate 7 refused) 2 5150 ≡ 4)
+    × (loss 10000 (tranche 10000 10000 10000 ∷ replicate 7 refused) 8 5150 ≡ 6)
+    × (loss 10000 (tranche 10000 10000 10001 ∷ replicate 7 refused) 8 5150 ≡ 5)
+    × (loss 10000 (replicate 7 accepted ++ (refused ∷ [])) 7 5151 ≡ 0)
+    × (loss 10000 (replicate 7 accepted ++ (refused ∷ [])) 8 5150 ≡ 4)
 unfolding firstOf firstGround assetsGround probabilityGround correlationGround recoveryGround upperGround attachmentsGround storeGround countGround storePlaces someShorter lossGrounds poolGrounds trancheGrounds tranchesGrounds countedGrounds tranchePlaces largestPool whole
 tranches-table = (refl, refl, refl, refl, refl, refl, refl, refl, refl, refl, refl, refl, refl, refl, refl, refl, refl)
 
 -- The screen's column and loss for n assets: the number with all else right, and with all else wrong.
 abbrev OnScreen : (n right wrong : ℕ) → Type 0
 OnScreen n right wrong =
-    (firstGround (screenColumnGrounds largestPool screenPool n 1000 3000 (slices 2211 2211) 66) ≡ right)
-    × (firstGround (screenLossGrounds largestPool screenPool n 1000 3000 (tranche 4000 1000 3000 ∷ []) 1 (slices 2211 2211)) ≡ right)
+    (firstGround (screenColumnGrounds largestPool screenPool n 1000 3000 (slices 5253 5253) 102) ≡ right)
+    × (firstGround (screenLossGrounds largestPool screenPool n 1000 3000 (tranche 4000 1000 3000 ∷ []) 1 (slices 5253 5253)) ≡ right)
     × (firstGround (screenColumnGrounds largestPool screenPool n 10001 10001 (slices 0 0) 0) ≡ wrong)
     × (firstGround (screenLossGrounds largestPool screenPool n 10001 10001 (refused ∷ []) 9 (slices 0 0)) ≡ wrong)
 
-pub screen-table : OnScreen 0 1 1 × OnScreen 1 0 2 × OnScreen 20 0 2 × OnScreen 21 11 11 × OnScreen 64 11 11 × OnScreen 65 1 1
+pub screen-table : OnScreen 0 1 1 × OnScreen 1 0 2 × OnScreen 20 0 2 × OnScreen 21 11 11 × OnScreen 64 11 11 × OnScreen 65 11 11 × OnScreen 100 11 11 × OnScreen 101 1 1
 unfolding firstOf firstGround assetsGround probabilityGround correlationGround recoveryGround upperGround attachmentsGround storeGround entriesGround screenGround countGround storePlaces someShorter fillGrounds entriesGrounds columnGrounds lossGrounds screened screenColumnGrounds screenLossGrounds poolGrounds trancheGrounds tranchesGrounds countedGrounds tranchePlaces largestPool screenPool whole
-screen-table =
-    ((refl, refl, refl, refl), (refl, refl, refl, refl), (refl, refl, refl, refl), (refl, refl, refl, refl), (refl, refl, refl, refl), (refl, refl, refl, refl))
+screen-table = (
+  (refl, refl, refl, refl),
+  (refl, refl, refl, refl),
+  (refl, refl, refl, refl),
+  (refl, refl, refl, refl),
+  (refl, refl, refl, refl),
+  (refl, refl, refl, refl),
+  (refl, refl, refl, refl),
+  (refl, refl, refl, refl),
+)
+
+-- A shift list for n assets, and the pool that the program `column` is given, with all else right.
+abbrev InReport : (n number : ℕ) → Type 0
+InReport n number =
+    (firstGround (shiftGrounds reportPool n 10000 10000 (slices 2211 2211) 66) ≡ number) × (firstGround (poolGrounds reportPool n 10000 10000) ≡ number)
+
+pub report-table : InReport 64 0 × InReport 65 1
+unfolding firstOf firstGround assetsGround probabilityGround correlationGround storeGround entriesGround storePlaces someShorter fillGrounds entriesGrounds shiftGrounds poolGrounds reportPool whole
+report-table = ((refl, refl), (refl, refl))
 
 abbrev betaColumn : (n p ρ units : ℕ) → ℕ
 betaColumn n p ρ units = firstGround (betaColumnGrounds largestPool n p ρ units)
@@ -156,27 +174,27 @@ betaLoss n p ρ count R A B = firstGround (betaLossGrounds largestPool n p ρ (r
 
 -- At the edges of 12, of 8 and of 13, and with all that follows wrong.
 pub beta-table :
-    (betaColumn 64 10000 9999 65 ≡ 0)
-    × (betaColumn 64 10000 9999 64 ≡ 8)
-    × (betaColumn 64 10000 10000 65 ≡ 12)
-    × (betaColumn 64 10000 10000 64 ≡ 12)
-    × (betaColumn 64 10000 10001 64 ≡ 3)
-    × (betaColumn 64 10001 10000 64 ≡ 2)
+    (betaColumn 100 10000 9999 101 ≡ 0)
+    × (betaColumn 100 10000 9999 100 ≡ 8)
+    × (betaColumn 100 10000 10000 101 ≡ 12)
+    × (betaColumn 100 10000 10000 100 ≡ 12)
+    × (betaColumn 100 10000 10001 100 ≡ 3)
+    × (betaColumn 100 10001 10000 100 ≡ 2)
     × (betaColumn 0 10001 10000 0 ≡ 1)
-    × (betaColumn 65 10001 10000 0 ≡ 1)
-    × (betaLoss 64 10000 9999 1 10000 9999 10000 ≡ 0)
-    × (betaLoss 64 10000 9999 1 10000 10000 10000 ≡ 6)
-    × (betaLoss 64 10000 9999 1 10000 10001 10001 ≡ 5)
-    × (betaLoss 64 10000 9999 1 10001 10001 10001 ≡ 4)
-    × (betaLoss 64 10000 9999 8 10000 9999 10000 ≡ 0)
-    × (betaLoss 64 10000 9999 9 10000 9999 10000 ≡ 13)
-    × (betaLoss 64 10000 9999 0 10001 10001 10001 ≡ 13)
-    × (betaLoss 64 10000 9999 9 10001 10001 10001 ≡ 13)
-    × (betaLoss 64 10000 10000 1 10000 9999 10000 ≡ 12)
-    × (betaLoss 64 10000 10000 9 10001 10001 10001 ≡ 12)
-    × (betaLoss 64 10000 10001 9 10001 10001 10001 ≡ 3)
-    × (betaLoss 64 10001 10000 9 10001 10001 10001 ≡ 2)
+    × (betaColumn 101 10001 10000 0 ≡ 1)
+    × (betaLoss 100 10000 9999 1 10000 9999 10000 ≡ 0)
+    × (betaLoss 100 10000 9999 1 10000 10000 10000 ≡ 6)
+    × (betaLoss 100 10000 9999 1 10000 10001 10001 ≡ 5)
+    × (betaLoss 100 10000 9999 1 10001 10001 10001 ≡ 4)
+    × (betaLoss 100 10000 9999 8 10000 9999 10000 ≡ 0)
+    × (betaLoss 100 10000 9999 9 10000 9999 10000 ≡ 13)
+    × (betaLoss 100 10000 9999 0 10001 10001 10001 ≡ 13)
+    × (betaLoss 100 10000 9999 9 10001 10001 10001 ≡ 13)
+    × (betaLoss 100 10000 10000 1 10000 9999 10000 ≡ 12)
+    × (betaLoss 100 10000 10000 9 10001 10001 10001 ≡ 12)
+    × (betaLoss 100 10000 10001 9 10001 10001 10001 ≡ 3)
+    × (betaLoss 100 10001 10000 9 10001 10001 10001 ≡ 2)
     × (betaLoss 0 10001 10000 9 10001 10001 10001 ≡ 1)
-    × (betaLoss 65 10001 10000 9 10001 10001 10001 ≡ 1)
+    × (betaLoss 101 10001 10000 9 10001 10001 10001 ≡ 1)
 unfolding firstOf firstGround assetsGround probabilityGround correlationGround recoveryGround upperGround attachmentsGround entriesGround fullCorrelationGround countGround betaPoolGrounds betaColumnGrounds betaLossGrounds poolGrounds trancheGrounds tranchesGrounds countedGrounds tranchePlaces largestPool whole
 beta-table = (refl, refl, refl, refl, refl, refl, refl, refl, refl, refl, refl, refl, refl, refl, refl, refl, refl, refl, refl, refl, refl, refl)

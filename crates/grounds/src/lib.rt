@@ -49,7 +49,7 @@ pub fn screen_refusal(most: u32, limit: u32, n: u32) -> u32
     first(of_assets, of_screen)
 }
 
-fn pool_refusal(most: u32, n: u32, p: u32, rho: u32) -> u32
+pub fn pool_refusal(most: u32, n: u32, p: u32, rho: u32) -> u32
     ensures { λ r. ⌜ r ≡ firstGround (poolGrounds most n p rho) ⌝ }
 {
     first(

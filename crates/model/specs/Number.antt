@@ -1,6 +1,8 @@
--- Finite sums and products, binomial coefficients, binomial and alternating sums, triangle numbers, limits put to an integer.
+-- Finite sums and products, binomial coefficients and Pascal's triangle, binomial and alternating sums, triangle numbers, limits put to an integer.
 -- Assumes nothing.
 use Prim.Native.Nat.{ℕ, zero, suc, _+_, _*_, _-_, min}
+use mathlib.Core.Bool.{cond}
+use lib.Dec.{ltb}
 use lib.IntN.{ℤ, pos, negsuc, negℤ, _+ℤ_}
 pub mod Laws
 
@@ -27,6 +29,12 @@ unfoldable pub choose : ℕ → ℕ → ℕ
 choose n zero = 1
 choose zero (suc i) = 0
 choose (suc n) (suc i) = choose n i + choose n (suc i)
+
+-- Row k of Pascal's triangle with any `one` and any sum: ones at both ends, and inside the sum of the two entries above. Past its end a row goes on with ones.
+unfoldable pub pascalRow : {A : Type 0} (one : A) (plus : A → A → A) (k j : ℕ) → A
+pascalRow one plus k zero = one
+pascalRow one plus zero (suc j) = one
+pascalRow one plus (suc k) (suc j) = cond (ltb j k) (plus (pascalRow one plus k j) (pascalRow one plus k (suc j))) one
 
 -- n!
 unfoldable pub factorial : ℕ → ℕ

@@ -3,9 +3,9 @@
 -- 1. Every input is answered or refused by one number, and a refused call leaves its slices as they were.
 -- 2. Two bounds that the rounding steps make lie round every exact value of the call's model: the correlated binomial, and in the calls that have its name the
 -- beta-binomial.
--- 3. The two are at most one part in 100,000 apart, on the quote screen one part in 1,000,000; the rows of a column are differences of tails rounded to nearest, add
--- to exactly 100,000 units, and each is less than 1.5 units off; the entries of a shift list past the first add to less than 1.3 units for each asset, and each is
--- less than 1.3 units off.
+-- 3. The two are at most one part in 100,000 apart for up to 64 assets and one part in 50,000 for more, on the quote screen one part in 1,000,000; the rows of a
+-- column are differences of tails rounded to nearest, add to exactly 100,000 units, and each is less than 1.5 units off for up to 64 assets and less than 2 units for
+-- more; the entries of a shift list past the first add to less than 1.3 units for each asset, and each is less than 1.3 units off.
 -- Assumes nothing.
 use Prim.Native.Nat.{ℕ, suc, _+_, _-_, _*_, _/_, _≤_, _<_}
 use mathlib.Core.Path.{_≡_}
@@ -33,7 +33,7 @@ use Rattle.steps.specs.Column.{printedTail}
 use Rattle.steps.specs.CorrelatedBinomial.{keptDefaults}
 use Rattle.steps.specs.CorrelatedBinomial.Exponents.{PoolNumber}
 use Rattle.steps.specs.BetaBinomial.{keptEntry, keptBetaDefaults, BetaNumber}
-use Rattle.steps.specs.Inputs.{distanceFor}
+use Rattle.steps.specs.Inputs.{upTo, distanceFor}
 use Rattle.steps.specs.declared.Tranche.{Tranche}
 use Rattle.grounds.specs.Grounds.{Ground, firstGround, fillGrounds, rowGrounds, columnGrounds, shiftGrounds, lossGrounds, screenColumnGrounds, screenLossGrounds, Screens, betaColumnGrounds, betaLossGrounds}
 use Rattle.store.specs.declared.Pool.{Pool}
@@ -63,6 +63,10 @@ pub record Demand3 (parts : ℕ) (low high : Kept) (exact : Fraction) : Type 0 w
   pub apart : AtMost (times (integer parts) (value high)) (plus exact (times (integer parts) (value low)))
   pub of-zero : exact .num ≡ 0 → (low ≡ nought) × (high ≡ nought)
 
+-- Bounds for n assets, those of row n of a store for a pool of any size among them, may be one part in so many apart: 100,000 for up to 64, and 50,000 for more.
+unfoldable pub partsFor : ℕ → ℕ
+partsFor n = upTo 64 n 100000 50000
+
 -- Demands 2 and 3 of two bounds.
 pub record BoundDemands (parts : ℕ) (low high : Kept) (exact : Fraction) : Type 0 where
   pub two : Demand2 low high exact
@@ -82,14 +86,18 @@ pub record PrintedDemands (low : ℕ → Kept) (printed : ℕ → ℕ) : Type 0 
 unfoldable pub oneAndAHalf : Fraction
 oneAndAHalf = record { num = 3; den = 2; positive = lit< tt }
 
+-- A printed row for n assets is less than so many units off: 1.5 for up to 64 assets, and 2 for more.
+unfoldable pub unitsOff : ℕ → Fraction
+unitsOff n = upTo 64 n oneAndAHalf (integer 2)
+
 -- Demand 3, of a column: row k, as it stands in the slice, is what the printed tail at k has more than the next. Rows 0 to n add to exactly 100,000, and row k is
--- less than 1.5 from 100,000 times the exact chance of k defaults.
+-- less than `unitsOff n` from 100,000 times the exact chance of k defaults.
 pub record Demand3Column (n : ℕ) (low : ℕ → Kept) (printed : ℕ → ℕ) (exact : ℕ → Fraction) (units : List ℕ) : Type 0 where
   pub printed-is : PrintedDemands low printed
   pub difference : (k : ℕ) → k ≤ n → getD units k 0 + printed (suc k) ≡ printed k
   pub total : sum (suc n) (λ k. getD units k 0) ≡ 100000
-  pub not-above : (k : ℕ) → k ≤ n → Less (integer (getD units k 0)) (plus (times (integer 100000) (exact k)) oneAndAHalf)
-  pub not-below : (k : ℕ) → k ≤ n → Less (times (integer 100000) (exact k)) (plus (integer (getD units k 0)) oneAndAHalf)
+  pub not-above : (k : ℕ) → k ≤ n → Less (integer (getD units k 0)) (plus (times (integer 100000) (exact k)) (unitsOff n))
+  pub not-below : (k : ℕ) → k ≤ n → Less (times (integer 100000) (exact k)) (plus (integer (getD units k 0)) (unitsOff n))
 
 -- 1.3
 unfoldable pub oneAndThreeTenths : Fraction
@@ -218,28 +226,28 @@ module _ (pool : Pool) where
   ρ = pool .correlation
 
   -- The table that every accepted call works out. In the store, at place k(k+1)/2 + j, stand on either side the numbers that steps 1 to 3 make for entry j of
-  -- row k, bounds of P(j,k). The later steps go on from row n.
-  pub record TableDemands (parts : ℕ) (s : Slices) : Type 0 where
+  -- row k, bounds of P(j,k), at most one part in `parts k` apart. The later steps go on from row n.
+  pub record TableDemands (parts : ℕ → ℕ) (s : Slices) : Type 0 where
     pub made : (side : Side) (j k : ℕ) → j ≤ k → k ≤ n → numberOn side s (k * (k + 1) / 2 + j) ≡ keptRow side p ρ k j
     pub entries : (j k : ℕ) → j ≤ k → k ≤ n
-        → BoundDemands parts (numberOn Low s (k * (k + 1) / 2 + j)) (numberOn High s (k * (k + 1) / 2 + j)) (probability p ρ j k)
-    pub steps : StepsDemands parts n (defaults n p ρ) (λ side. keptDefaults side n p ρ) (λ side. PoolNumber side n p ρ)
+        → BoundDemands (parts k) (numberOn Low s (k * (k + 1) / 2 + j)) (numberOn High s (k * (k + 1) / 2 + j)) (probability p ρ j k)
+    pub steps : StepsDemands (parts n) n (defaults n p ρ) (λ side. keptDefaults side n p ρ) (λ side. PoolNumber side n p ρ)
 
   -- The places of rows 0 to n.
   abbrev places : ℕ
   places = (n + 1) * (n + 2) / 2
 
   -- What every call that fills the store leaves of it where it is accepted: the table, and behind it what stood there.
-  pub record StoreDemands (parts : ℕ) (before after : Slices) (refusal : ℕ) : Type 0 where
+  pub record StoreDemands (parts : ℕ → ℕ) (before after : Slices) (refusal : ℕ) : Type 0 where
     pub table : refusal ≡ 0 → TableDemands parts after
     pub later : refusal ≡ 0 → from places after ≡ from places before
 
   pub record FillDemands (before after : Slices) (refusal : ℕ) : Type 0 where
-    pub one : Demand1 (fillGrounds 64 n p ρ (lengthsOf before)) refusal before after
-    pub store : StoreDemands 100000 before after refusal
+    pub one : Demand1 (fillGrounds 100 n p ρ (lengthsOf before)) refusal before after
+    pub store : StoreDemands partsFor before after refusal
 
   -- What a call leaves that also writes entries 0 to n to a slice beside the store, which held `old`: a place behind them keeps its content.
-  pub record EntriesDemands {A : Type 0} (parts : ℕ) (grounds : List Ground) (before after : Slices) (old new : List A) (refusal : ℕ) : Type 0 where
+  pub record EntriesDemands {A : Type 0} (parts : ℕ → ℕ) (grounds : List Ground) (before after : Slices) (old new : List A) (refusal : ℕ) : Type 0 where
     pub one : Demand1 {Given = Slices × List A} grounds refusal (before, old) (after, new)
     pub store : StoreDemands parts before after refusal
     pub later-entries : refusal ≡ 0 → drop (n + 1) new ≡ drop (n + 1) old
@@ -249,18 +257,18 @@ module _ (pool : Pool) where
   lowTails ρ k = keptTail Low n (keptDefaults Low n p ρ) k
 
   -- Of a column call, by how far its bounds are apart and by its grounds.
-  pub record ColumnDemandsBy (parts : ℕ) (grounds : List Ground) (before after : Slices) (units units′ : List ℕ) (refusal : ℕ) : Type 0 where
+  pub record ColumnDemandsBy (parts : ℕ → ℕ) (grounds : List Ground) (before after : Slices) (units units′ : List ℕ) (refusal : ℕ) : Type 0 where
     pub leaves : EntriesDemands parts grounds before after units units′ refusal
     pub column : refusal ≡ 0 → Demand3Column n (lowTails ρ) (printedTail n (keptDefaults Low n p ρ)) (chance (defaults n p ρ)) units′
 
   abbrev pub ColumnDemands : (before after : Slices) (units units′ : List ℕ) (refusal : ℕ) → Type 0
-  ColumnDemands before after units = ColumnDemandsBy 100000 (columnGrounds 64 n p ρ (lengthsOf before) (length units)) before after units
+  ColumnDemands before after units = ColumnDemandsBy partsFor (columnGrounds 100 n p ρ (lengthsOf before) (length units)) before after units
 
   -- The column of the quote screen, with grounds and a distance of its own. It refuses by 11 exactly where there are more than 20 assets and 1 does not apply. Save
   -- there, what it answers and leaves is what the contract of the library's call says for the same inputs, which leaves one outcome.
   pub record ScreenColumnDemands (before after : Slices) (units units′ : List ℕ) (refusal : ℕ) : Type 0 where
-    pub own : ColumnDemandsBy 1000000 (screenColumnGrounds 64 20 n p ρ (lengthsOf before) (length units)) before after units units′ refusal
-    pub screens : Screens 64 20 n (firstGround (columnGrounds 64 n p ρ (lengthsOf before) (length units))) refusal
+    pub own : ColumnDemandsBy (λ _. 1000000) (screenColumnGrounds 100 20 n p ρ (lengthsOf before) (length units)) before after units units′ refusal
+    pub screens : Screens 100 20 n (firstGround (columnGrounds 100 n p ρ (lengthsOf before) (length units))) refusal
     pub library : (refusal ≡ 11 → ⊥) → Prints columnRefusal distanceFor pool (storeOf before) (storeOf after) units units′ refusal
     pub same : (refusal ≡ 11 → ⊥) → (after₂ : Slices) (units₂ : List ℕ) (refusal₂ : ℕ)
         → Prints columnRefusal distanceFor pool (storeOf before) (storeOf after₂) units units₂ refusal₂ → (refusal ≡ refusal₂) × (after ≡ after₂) × (units′ ≡ units₂)
@@ -273,33 +281,33 @@ module _ (pool : Pool) where
 
   -- Its column call, which is lent no store.
   pub record BetaColumnDemands (units units′ : List ℕ) (refusal : ℕ) : Type 0 where
-    pub one : Demand1 (betaColumnGrounds 64 n p ρ (length units)) refusal units units′
+    pub one : Demand1 (betaColumnGrounds 100 n p ρ (length units)) refusal units units′
     pub later-units : refusal ≡ 0 → drop (n + 1) units′ ≡ drop (n + 1) units
-    pub row : refusal ≡ 0 → BetaRowDemands 100000
+    pub row : refusal ≡ 0 → BetaRowDemands (partsFor n)
     pub column : refusal ≡ 0
         → Demand3Column n (keptTail Low n (keptBetaDefaults Low n p ρ)) (printedTail n (keptBetaDefaults Low n p ρ)) (chance (betaDefaults n p ρ)) units′
 
   -- The other correlation is 0.
   pub record ShiftDemands (before after : Slices) (shifts shifts′ : List ℤ) (refusal : ℕ) : Type 0 where
-    pub leaves : EntriesDemands 100000 (shiftGrounds 64 n p ρ (lengthsOf before) (length shifts)) before after shifts shifts′ refusal
+    pub leaves : EntriesDemands partsFor (shiftGrounds 64 n p ρ (lengthsOf before) (length shifts)) before after shifts shifts′ refusal
     pub list : refusal ≡ 0
         → Demand3Shifts n (lowTails ρ) (lowTails 0) (printedTail n (keptDefaults Low n p ρ)) (printedTail n (keptDefaults Low n p 0))
         (tail (defaults n p ρ)) (tail (defaults n p 0)) shifts′
 
   module _ (tranches : List Tranche) (count : ℕ) where
     -- Of a loss call, by how far its bounds are apart and by its grounds.
-    pub record TranchesDemandsBy (parts : ℕ) (grounds : List Ground) (before after : Slices) (answer : Answer) : Type 0 where
+    pub record TranchesDemandsBy (parts : ℕ → ℕ) (grounds : List Ground) (before after : Slices) (answer : Answer) : Type 0 where
       pub one : Demand1 grounds (answer .refusal) before after
       pub store : StoreDemands parts before after (answer .refusal)
-      pub losses : LossesDemands parts (defaults n p ρ) (λ side. keptDefaults side n p ρ) tranches count answer
+      pub losses : LossesDemands (parts n) (defaults n p ρ) (λ side. keptDefaults side n p ρ) tranches count answer
 
     abbrev pub TranchesDemands : (before after : Slices) (answer : Answer) → Type 0
-    TranchesDemands before = TranchesDemandsBy 100000 (lossGrounds 64 n p ρ tranches count (lengthsOf before)) before
+    TranchesDemands before = TranchesDemandsBy partsFor (lossGrounds 100 n p ρ tranches count (lengthsOf before)) before
 
     -- The quote screen's losses, as its column.
     pub record ScreenTranchesDemands (before after : Slices) (answer : Answer) : Type 0 where
-      pub own : TranchesDemandsBy 1000000 (screenLossGrounds 64 20 n p ρ tranches count (lengthsOf before)) before after answer
-      pub screens : Screens 64 20 n (firstGround (lossGrounds 64 n p ρ tranches count (lengthsOf before))) (answer .refusal)
+      pub own : TranchesDemandsBy (λ _. 1000000) (screenLossGrounds 100 20 n p ρ tranches count (lengthsOf before)) before after answer
+      pub screens : Screens 100 20 n (firstGround (lossGrounds 100 n p ρ tranches count (lengthsOf before))) (answer .refusal)
       pub library : (answer .refusal ≡ 11 → ⊥)
           → Replies lossRefusal distanceFor pool tranches count (storeOf before) (storeOf after) (answer .refusal) (lossesIn (answer .losses))
       pub same : (answer .refusal ≡ 11 → ⊥) → (after₂ : Slices) (answer₂ : Answer)
@@ -308,15 +316,15 @@ module _ (pool : Pool) where
 
     -- The loss call of the beta-binomial model, which is lent no slice.
     pub record BetaTranchesDemands (answer : Answer) : Type 0 where
-      pub number : answer .refusal ≡ firstGround (betaLossGrounds 64 n p ρ tranches count)
-      pub row : answer .refusal ≡ 0 → BetaRowDemands 100000
-      pub losses : LossesDemands 100000 (betaDefaults n p ρ) (λ side. keptBetaDefaults side n p ρ) tranches count answer
+      pub number : answer .refusal ≡ firstGround (betaLossGrounds 100 n p ρ tranches count)
+      pub row : answer .refusal ≡ 0 → BetaRowDemands (partsFor n)
+      pub losses : LossesDemands (partsFor n) (betaDefaults n p ρ) (λ side. keptBetaDefaults side n p ρ) tranches count answer
 
 -- The slice is lent to be read, so that no call can write to it. Row k of a filled store has the significands of its bounds.
 pub record RowDemands (n k : ℕ) (significands part : List ℕ) (refusal : ℕ) : Type 0 where
-  pub number : refusal ≡ firstGround (rowGrounds 64 n k (length significands))
+  pub number : refusal ≡ firstGround (rowGrounds 100 n k (length significands))
   pub refused : (refusal ≡ 0 → ⊥) → length part ≡ 0
   pub entries : refusal ≡ 0 → length part ≡ k + 1
   pub entry : refusal ≡ 0 → (j : ℕ) → j ≤ k → getD part j 0 ≡ getD significands (k * (k + 1) / 2 + j) 0
-  pub of-filled : refusal ≡ 0 → (parts : ℕ) (pool : Pool) (s : Slices) → TableDemands pool parts s → n ≤ pool .assets → (side : Side) → significands ≡ significandsOn side s
+  pub of-filled : refusal ≡ 0 → (parts : ℕ → ℕ) (pool : Pool) (s : Slices) → TableDemands pool parts s → n ≤ pool .assets → (side : Side) → significands ≡ significandsOn side s
       → (j : ℕ) → j ≤ k → getD part j 0 ≡ keptRow side (pool .probability) (pool .correlation) k j .significand

@@ -1,4 +1,4 @@
--- The answer to the line of the pool n = 3, p = 1000, ρ = 3000, to that of a pool with no asset, and to no line, byte for byte.
+-- The answer to the line of the pool n = 3, p = 1000, ρ = 3000, to those of pools with no asset and with 65, and to no line, byte for byte.
 -- Assumes nothing.
 use Prim.Native.Nat.{ℕ, zero, suc, _+_, _≤_}
 use mathlib.Core.Path.{_≡_, refl, sym, ap, _∙_}
@@ -11,7 +11,7 @@ use Rattle.model.specs.CorrelatedBinomial.{defaults}
 use Rattle.kept.specs.declared.Side.the-variants.{Low}
 use Rattle.steps.specs.Cases.{cases}
 use Rattle.steps.specs.Column.{printedTail, printedRow}
-use Rattle.steps.specs.Inputs.{largestPool}
+use Rattle.steps.specs.Inputs.{largestPool, reportPool}
 use Rattle.steps.specs.CorrelatedBinomial.{keptDefaults}
 use Rattle.steps.specs.CorrelatedBinomial.Theorems.{printed}
 use Rattle.grounds.specs.Grounds.{firstOf, firstGround, poolGrounds, assetsGround, probabilityGround, correlationGround}
@@ -23,8 +23,8 @@ use Rattle.text.specs.Table.Laws.{column-text}
 use Rattle.reply.specs.declared.Reply.{Reply}
 use Rattle.reply.specs.Reply.{AnswersInput, AnswersStart, Carries}
 
-accepted : firstGround (poolGrounds largestPool 3 1000 3000) ≡ 0
-unfolding firstGround firstOf poolGrounds assetsGround probabilityGround correlationGround largestPool whole
+accepted : firstGround (poolGrounds reportPool 3 1000 3000) ≡ 0
+unfolding firstGround firstOf poolGrounds assetsGround probabilityGround correlationGround reportPool whole
 accepted = refl
 
 abbrev columnOfThree : List ℕ
@@ -58,18 +58,19 @@ reply-of-three answers =
     ∙ sym (column-text 3 columnOfThree (printedRow 3 (keptDefaults Low 3 1000 3000)) tails same difference past)
     ∙ table-of-three
 
--- A pool with no asset is refused by ground 1.
-refusal : firstGround (poolGrounds largestPool 0 1000 3000) ≡ 1
-unfolding firstGround firstOf poolGrounds assetsGround probabilityGround correlationGround largestPool whole
-refusal = refl
-
-line-of-none : Accepts (ascii "0 1000 3000\n") 0 1000 3000
-unfolding decimal digitsBySteps ascii
-line-of-none = line-of-decimals 0 1000 3000 (lit< tt) (lit< tt) (lit< tt)
+-- A pool that ground 1 refuses.
+refused : {n p ρ : ℕ} {input text : List ℕ} → Accepts input n p ρ → firstGround (poolGrounds reportPool n p ρ) ≡ 1 → AnswersInput input text
+    → text ≡ ascii "refused 1\n"
+unfolding refusedText fieldText decimal digitsBySteps ascii
+refused line refusal answers = answers .line _ _ _ line .refused (λ none. omega (arith, refusal)) ∙ ap refusedText refusal
 
 pub reply-of-none : {text : List ℕ} → AnswersInput (ascii "0 1000 3000\n") text → text ≡ ascii "refused 1\n"
-unfolding refusedText fieldText decimal digitsBySteps ascii
-reply-of-none answers = answers .line 0 1000 3000 line-of-none .refused (λ none. omega (arith, refusal)) ∙ ap refusedText refusal
+unfolding firstGround firstOf poolGrounds assetsGround probabilityGround correlationGround reportPool whole decimal digitsBySteps ascii
+reply-of-none = refused (line-of-decimals 0 1000 3000 (lit< tt) (lit< tt) (lit< tt)) refl
+
+pub reply-of-sixty-five : {text : List ℕ} → AnswersInput (ascii "65 1000 3000\n") text → text ≡ ascii "refused 1\n"
+unfolding firstGround firstOf poolGrounds assetsGround probabilityGround correlationGround reportPool whole decimal digitsBySteps ascii
+reply-of-sixty-five = refused (line-of-decimals 65 1000 3000 (lit< tt) (lit< tt) (lit< tt)) refl
 
 -- A number alone is no line.
 pub reply-of-number : {text : List ℕ} → AnswersInput (ascii "3\n") text → text ≡ ascii "refused line\n"

@@ -7,17 +7,17 @@ use lib.ListN.{length, take}
 use Rattle.kept.specs.declared.Side.the-variants.{Low}
 use Rattle.steps.specs.Column.{printedTail, printedRow}
 use Rattle.steps.specs.CorrelatedBinomial.{keptDefaults}
-use Rattle.steps.specs.Inputs.{largestPool}
+use Rattle.steps.specs.Inputs.{reportPool}
 use Rattle.grounds.specs.Grounds.{firstGround, poolGrounds}
 use Rattle.text.specs.Line.{Accepts}
 use Rattle.text.specs.Table.{tableText, refusedText, refusedLine}
 use Rattle.reply.specs.declared.Reply.{Reply}
 pub mod Laws
 
--- The text that answers n, p and ρ: the number of the first ground that applies among those of a pool, or the table of the printed rows and tails.
+-- The text that answers n, p and ρ: the number of the first ground that applies among those of a pool in a report, or the table of the printed rows and tails.
 pub record AnswersPool (n p ρ : ℕ) (text : List ℕ) : Type 0 where
-  pub refused : (firstGround (poolGrounds largestPool n p ρ) ≡ 0 → ⊥) → text ≡ refusedText (firstGround (poolGrounds largestPool n p ρ))
-  pub table : firstGround (poolGrounds largestPool n p ρ) ≡ 0
+  pub refused : (firstGround (poolGrounds reportPool n p ρ) ≡ 0 → ⊥) → text ≡ refusedText (firstGround (poolGrounds reportPool n p ρ))
+  pub table : firstGround (poolGrounds reportPool n p ρ) ≡ 0
       → text ≡ tableText n (printedRow n (keptDefaults Low n p ρ)) (printedTail n (keptDefaults Low n p ρ))
 
 -- The text that answers an input, any bytes.

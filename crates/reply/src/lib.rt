@@ -1,11 +1,11 @@
 // The answer of the program `column` to its input, whole.
 use pool::Pool;
-use steps::LARGEST_POOL;
+use steps::REPORT_POOL;
 use text::line::Line;
 ghost use Rattle.reply.specs.Reply.{Carries, AnswersPool, AnswersInput, AnswersStart};
 
-// The rows of the largest pool: 65.
-const ROWS: usize = LARGEST_POOL as usize + 1;
+// The rows of the largest pool that is answered: 65.
+const ROWS: usize = REPORT_POOL as usize + 1;
 
 // The places of its store: 2,145, the entries of its rows.
 const STORE: usize = ROWS * (ROWS + 1) / 2;
@@ -26,12 +26,18 @@ pub struct Reply {
 fn column_reply(n: u32, p: u32, rho: u32) -> Reply
     ensures { λ r. ⌜ Carries (AnswersPool n p rho) r ⌝ }
 {
+    let mut text = [0u8; TEXT];
+    let refusal = grounds::pool_refusal(REPORT_POOL, n, p, rho);
+    if refusal != 0 {
+        let length = text::table::write_refused(refusal, &mut text);
+        return Reply { text, length };
+    }
     let mut low_significands = [0u32; STORE];
     let mut high_significands = [0u32; STORE];
     let mut low_exponents = [0i32; STORE];
     let mut high_exponents = [0i32; STORE];
     let mut units = [0u32; ROWS];
-    let refusal = pool::column(
+    pool::column(
         Pool {
             assets: n,
             probability: p,
@@ -43,11 +49,6 @@ fn column_reply(n: u32, p: u32, rho: u32) -> Reply
         &mut high_exponents,
         &mut units,
     );
-    let mut text = [0u8; TEXT];
-    if refusal != 0 {
-        let length = text::table::write_refused(refusal, &mut text);
-        return Reply { text, length };
-    }
     let length = text::table::write_table(n, &units, &mut text);
     Reply { text, length }
 }

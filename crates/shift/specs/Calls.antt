@@ -10,7 +10,7 @@ use Rattle.kept.specs.declared.Side.the-variants.{Low}
 use Rattle.steps.specs.Column.{tenths}
 use Rattle.steps.specs.Shifts.{tailShift}
 use Rattle.steps.specs.CorrelatedBinomial.{keptDefaults}
-use Rattle.steps.specs.Inputs.{largestPool, distanceFor, shiftTenths}
+use Rattle.steps.specs.Inputs.{reportPool, distanceFor, shiftTenths}
 use Rattle.steps.specs.Promises.{HoldsShifts}
 use Rattle.working.specs.Slices.{entriesAfter}
 use Rattle.grounds.specs.Grounds.{firstGround, shiftGrounds}
@@ -22,7 +22,7 @@ pub mod Demands
 
 unfoldable pub shiftRefusal : Pool → Store → List ℤ → ℕ
 shiftRefusal pool s shifts =
-    firstGround (shiftGrounds largestPool (pool .assets) (pool .probability) (pool .correlation) (lengths s) (length shifts))
+    firstGround (shiftGrounds reportPool (pool .assets) (pool .probability) (pool .correlation) (lengths s) (length shifts))
 
 -- The store is that of the pool. Entry k of the list is the printed tail at k less that of the same pool at correlation 0.
 pub record ListsShifts (pool : Pool) (before after : Store) (shifts shifts′ : List ℤ) (refusal : ℕ) : Type 0 where

@@ -1,12 +1,12 @@
-// Where correlation moves the chances of a pool: the shift list. Any numbers and slices of any length may be given. The call answers,
-// or refuses by the number of the first ground that applies and leaves every slice untouched.
+// Where correlation moves the chances of a pool of at most 64 assets: the shift list. Any numbers and slices of any length may be
+// given. The call answers, or refuses by the number of the first ground that applies and leaves every slice untouched.
 mod differences;
 
 use differences::print_shifts;
 use grounds::Lengths;
 use kept::Side;
 use pool::Pool;
-use steps::LARGEST_POOL;
+use steps::REPORT_POOL;
 use store::fill_both;
 ghost use Rattle.store.specs.Stores.{store};
 ghost use Rattle.shift.specs.Calls.{ListsShifts};
@@ -29,7 +29,7 @@ pub fn shift_list(
         r ⌝ }
 {
     let refusal = grounds::shift_refusal(
-        LARGEST_POOL,
+        REPORT_POOL,
         pool.assets,
         pool.probability,
         pool.correlation,

@@ -1,12 +1,13 @@
 -- Pools of 3 assets and of 2 by the steps, digit for digit; for p = 1000 and ρ = 3000 the column that the scope paper prints, and the shift list. The digits were
 -- worked out in exact fractions by tools/steps_figures.py.
 -- Assumes nothing.
-use Prim.Native.Nat.{ℕ, _-_, _*_, _<_}
+use Prim.Native.Nat.{ℕ, _-_, _*_, _≤_, _<_}
 use mathlib.Core.Path.{_≡_, refl}
+use native.Mathlib.Omega.{arith}
 use lib.Dec.{lit<}
 use lib.IntN.{ℤ, pos, negsuc}
 use lib.Ieee.{size}
-use Rattle.model.specs.Number.{choose, raise}
+use Rattle.model.specs.Number.{choose, pascalRow, raise}
 use Rattle.model.specs.Fraction.{integer, plus, times, divided, whole, complement, over}
 use Rattle.model.specs.Passes.{pass, passed}
 use Rattle.model.specs.Chances.{lossAbove, lossUnits}
@@ -17,7 +18,9 @@ use Rattle.kept.specs.Rounding.{scaled, nought, unity, increment, carry, round,
 use Rattle.kept.specs.Whole.{wholeOf}
 use Rattle.kept.specs.Binary64.{leastShown, belowShown, toBinary64}
 use Rattle.steps.specs.CorrelatedBinomial.Rows.{constant, keptConditional, keptJoint, keptPower, keptWeight, keptPassStep, keptRow}
-use Rattle.steps.specs.Counts.{keptCount}
+use Rattle.steps.specs.Inputs.{upTo}
+use Rattle.steps.specs.Inputs.Laws.{up-to}
+use Rattle.steps.specs.Counts.{exactAssets, summedCount, keptCount}
 use Rattle.steps.specs.Chances.{keptTotal, keptChance, keptChances, keptTail, keptTerm, keptLoss}
 use Rattle.steps.specs.Column.{unitsOfCertainty, exactUnits, half, inUnits, printedTail, printedRow}
 use Rattle.steps.specs.Shifts.{tailShift}
@@ -92,7 +95,13 @@ pub cases :
     × (printedOf 3 500 500 3 ≡ 70)
     -- A row of 1,253.91 units, the difference of its tails.
     × (rowOf 3 500 500 2 ≡ 1253)
-unfolding scaled nought unity increment carry round roundedProduct roundedSum roundedQuotient ofInteger ofBasisPoints size choose raise integer plus times divided whole complement over pass passed lossAbove lossUnits constant keptConditional keptJoint keptPower keptWeight keptPassStep keptRow keptTotal keptCount keptChance keptChances keptTail keptTerm keptLoss unitsOfCertainty exactUnits half wholeOf inUnits printedTail printedRow tailShift keptDefaults leastShown belowShown keptLeastShown raisedToShown lossAnswer
+    -- The row 1, 4, 6, 4, 1 by sums.
+    × Digits (λ side. summedCount side 4 0) 2147483648 2147483648 30
+    × Digits (λ side. summedCount side 4 1) 2147483648 2147483648 28
+    × Digits (λ side. summedCount side 4 2) 3221225472 3221225472 28
+    × Digits (λ side. summedCount side 4 3) 2147483648 2147483648 28
+    × Digits (λ side. summedCount side 4 4) 2147483648 2147483648 30
+unfolding scaled nought unity increment carry round roundedProduct roundedSum roundedQuotient ofInteger ofBasisPoints size choose raise integer plus times divided whole complement over pascalRow pass passed lossAbove lossUnits constant keptConditional keptJoint keptPower keptWeight keptPassStep keptRow keptTotal upTo exactAssets summedCount keptCount keptChance keptChances keptTail keptTerm keptLoss unitsOfCertainty exactUnits half wholeOf inUnits printedTail printedRow tailShift keptDefaults leastShown belowShown keptLeastShown raisedToShown lossAnswer
 cases = (
   (refl, refl),
   (refl, refl),
@@ -132,4 +141,17 @@ cases = (
   refl,
   refl,
   refl,
+  (refl, refl),
+  (refl, refl),
+  (refl, refl),
+  (refl, refl),
+  (refl, refl),
+)
+
+-- Up to 64 assets a count is worked out exactly and rounded, above 64 it is made by sums. At 63, 64 and 65 the two differ in bits for j from 9 to n − 9.
+pub count-rules : (side : Side) (n j : ℕ) → (n ≤ 64 → keptCount side n j ≡ ofInteger side (choose n j)) × (64 < n → keptCount side n j ≡ summedCount side n j)
+unfolding keptCount exactAssets
+count-rules side n j = (
+  λ few. up-to (λ x. x ≡ ofInteger side (choose n j)) exactAssets n (λ _. refl) (λ more. absurd (omega arith)),
+  λ more. up-to (λ x. x ≡ summedCount side n j) exactAssets n (λ few. absurd (omega arith)) (λ _. refl),
 )

@@ -1,16 +1,30 @@
 -- What the inputs of a pool and of a tranche are.
 -- Assumes nothing.
 use Prim.Native.Nat.{ℕ, _≤_, _<_}
+use mathlib.Core.Bool.{cond}
+use lib.Dec.{ltb}
 use Rattle.model.specs.Fraction.{whole}
 pub mod Laws
 
--- The most assets of a pool whose bounds are at most one part in 100,000 apart.
+-- x for up to `limit` assets, and y for more.
+unfoldable pub upTo : {A : Type 0} (limit n : ℕ) (x y : A) → A
+upTo limit n x y = cond (ltb limit n) y x
+
+-- The most assets of a pool.
 unfoldable pub largestPool : ℕ
-largestPool = 64
+largestPool = 100
+
+-- The most assets of a pool in a shift list, and in the program `column`.
+unfoldable pub reportPool : ℕ
+reportPool = 64
+
+-- The most assets whose bounds have the finer distance, and whose printed rows are the nearer ones.
+unfoldable pub finePool : ℕ
+finePool = 64
 
 -- Bounds for n assets, those of row n of a store among them, are at most one part in so many apart.
 unfoldable pub distanceFor : ℕ → ℕ
-distanceFor n = 100000
+distanceFor n = upTo finePool n 100000 50000
 
 -- The most assets of a pool on the quote screen, a product above the library for small pools.
 unfoldable pub screenPool : ℕ
@@ -22,7 +36,11 @@ screenDistance n = 1000000
 
 -- A printed row for n assets is less than so many tenths of a unit off.
 unfoldable pub tenthsFor : ℕ → ℕ
-tenthsFor n = 15
+tenthsFor n = upTo finePool n 15 20
+
+-- A printed tail for n assets is less than so many tenths of a unit below the exact one.
+unfoldable pub tailTenths : ℕ → ℕ
+tailTenths n = upTo finePool n 8 13
 
 -- An entry of a shift list is less than so many tenths of a unit off, and entries 1 to n add to less than that for each asset, above zero and below it.
 unfoldable pub shiftTenths : ℕ
@@ -30,7 +48,7 @@ shiftTenths = 13
 
 -- The most assets that a working row has places for.
 unfoldable pub workingAssets : ℕ
-workingAssets = 64
+workingAssets = 100
 
 -- A pool of at most so many assets; default probability and correlation in basis points.
 pub record InRange (most n p ρ : ℕ) : Type 0 where

@@ -10,8 +10,11 @@ pub struct Tranche {
 // The places for tranches in a loss call, and for losses in its answer.
 pub const TRANCHES: usize = 8;
 
-// The most assets of a pool whose bounds are at most one part in 100,000 apart.
-pub const LARGEST_POOL: u32 = 64;
+// The most assets of a pool.
+pub const LARGEST_POOL: u32 = 100;
+
+// The most assets of a pool in a shift list, and in the program `column`.
+pub const REPORT_POOL: u32 = 64;
 
 // The most assets that a working row has places for.
-pub const WORKING_ASSETS: u32 = 64;
+pub const WORKING_ASSETS: u32 = 100;

@@ -71,7 +71,7 @@ fn all_wrong(assets: u32, probability: u32, correlation: u32) {
 
 fn order() {
     all_wrong(0, 10_001, 10_000);
-    all_wrong(65, 10_001, 10_000);
+    all_wrong(101, 10_001, 10_000);
     all_wrong(0, 1_000, 10_000);
     all_wrong(3, 10_001, 10_001);
     all_wrong(3, 10_001, 10_000);

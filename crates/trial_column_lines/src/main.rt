@@ -132,6 +132,15 @@ fn half_way() {
     show(59, b"2 1150 0\n");
 }
 
+// Pools that the library accepts, and the first that it refuses.
+fn large_pools() {
+    show(60, b"66 1000 3000\n");
+    show(61, b"100 1000 3000\n");
+    show(62, b"100 0 0\n");
+    show(63, b"101 1000 3000\n");
+    show(64, b"100 10001 10001\n");
+}
+
 fn main() {
     tables();
     refusals();
@@ -140,4 +149,5 @@ fn main() {
     longest_lines();
     inputs_read();
     half_way();
+    large_pools();
 }

@@ -3,7 +3,9 @@ use crate::Call;
 use crate::Lengths;
 use crate::Library;
 use crate::ROWS;
+use crate::beyond;
 use crate::pool_of;
+use crate::row;
 use crate::run;
 use crate::run_ample;
 use crate::run_over;
@@ -20,7 +22,7 @@ pub fn exact_lengths(call: Call, pool: Pool, exact: usize, short: usize) {
 }
 
 pub fn longer_lengths(call: Call, pool: Pool, exact: usize)
-    requires { ⌜ exact ≤ 2145 ⌝ }
+    requires { ⌜ exact ≤ 5151 ⌝ }
 {
     run(
         call,
@@ -38,9 +40,29 @@ pub fn later_ends(call: Call, assets: u32) {
     run_ample(call, pool_of(assets, 10_000, 10_000));
 }
 
+// A correlation at and next to its ends.
+fn correlations(call: Call, assets: u32, probability: u32) {
+    run_ample(call, pool_of(assets, probability, 0));
+    run_ample(call, pool_of(assets, probability, 1));
+    run_ample(call, pool_of(assets, probability, 9_999));
+    run_ample(call, pool_of(assets, probability, 10_000));
+}
+
+// And a probability.
+pub fn corners(call: Call, assets: u32) {
+    correlations(call, assets, 0);
+    correlations(call, assets, 1);
+    correlations(call, assets, 9_999);
+    correlations(call, assets, 10_000);
+}
+
 // No places at all: where several grounds apply, the first is given.
 pub fn no_places(call: Call) {
-    run(call, pool_of(65, 1_000, 3_000), Lengths(0, 0, 0, 0));
+    run(
+        call,
+        pool_of(beyond(call), 1_000, 3_000),
+        Lengths(0, 0, 0, 0),
+    );
     run(call, pool_of(3, 10_001, 3_000), Lengths(0, 0, 0, 0));
     run(call, pool_of(3, 1_000, 10_001), Lengths(0, 0, 0, 0));
 }
@@ -50,6 +72,19 @@ pub fn over_others(call: Call, pool: Pool) {
     run_over(pool_of(10, 500, 250), call, pool);
     run_over(pool_of(2, 500, 250), call, pool);
     run_over(pool_of(64, 10_000, 10_000), call, pool);
+}
+
+// ---- a row
+
+pub fn rows_of(n: u32, exact: usize, short: usize)
+    requires { ⌜ n ≤ 100 ⌝ ∗ ⌜ exact ≤ 5151 ⌝ }
+{
+    row(n, 0, exact);
+    row(n, 1, exact + 5);
+    row(n, n, exact);
+    row(n, n + 1, exact);
+    row(n, n, short);
+    row(n, n + 1, short);
 }
 
 // ---- a list
@@ -76,13 +111,14 @@ fn list_ample(list: List, assets: u32, probability: u32, correlation: u32) {
 }
 
 pub fn list_pools(list: List) {
+    let many = beyond(listing(list, ROWS));
     list_ample(list, 3, 1_000, 3_000);
     list_ample(list, 0, 1_000, 3_000);
     list_ample(list, 64, 1_000, 3_000);
-    list_ample(list, 65, 1_000, 3_000);
+    list_ample(list, many, 1_000, 3_000);
     list_ample(list, 3, 10_001, 3_000);
     list_ample(list, 3, 1_000, 10_001);
-    list_ample(list, 65, 10_001, 10_001);
+    list_ample(list, many, 10_001, 10_001);
     list_ample(list, 3, 10_001, 10_001);
 }
 
@@ -91,25 +127,13 @@ fn list_ends(list: List, assets: u32) {
     later_ends(listing(list, ROWS), assets);
 }
 
-// A correlation at and next to its ends.
-fn list_correlations(list: List, assets: u32, probability: u32) {
-    list_ample(list, assets, probability, 0);
-    list_ample(list, assets, probability, 1);
-    list_ample(list, assets, probability, 9_999);
-    list_ample(list, assets, probability, 10_000);
-}
-
-// And a probability.
 pub fn list_corners(list: List, assets: u32) {
-    list_correlations(list, assets, 0);
-    list_correlations(list, assets, 1);
-    list_correlations(list, assets, 9_999);
-    list_correlations(list, assets, 10_000);
+    corners(listing(list, ROWS), assets);
 }
 
 // Also a list one place short, alone and with a slice, and longer.
 pub fn list_lengths(list: List, assets: u32, exact: usize, short: usize, entries: usize)
-    requires { ⌜ exact ≤ 2145 ⌝ ∗ ⌜ 1 ≤ entries ⌝ ∗ ⌜ entries ≤ 65 ⌝ }
+    requires { ⌜ exact ≤ 5151 ⌝ ∗ ⌜ 1 ≤ entries ⌝ ∗ ⌜ entries ≤ 101 ⌝ }
 {
     let pool = pool_of(assets, 1_000, 3_000);
     let short_list = listing(list, entries - 1);
@@ -147,6 +171,10 @@ pub fn lists(list: List) {
     no_places(listing(list, 0));
     let call = listing(list, ROWS);
     over_others(call, pool_of(3, 1_000, 3_000));
-    run_over(pool_of(10, 500, 250), call, pool_of(65, 1_000, 3_000));
+    run_over(
+        pool_of(10, 500, 250),
+        call,
+        pool_of(beyond(call), 1_000, 3_000),
+    );
     list_half_way(list);
 }

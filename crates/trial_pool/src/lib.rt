@@ -5,6 +5,7 @@ mod random;
 mod tranches;
 
 pub use edges::List;
+pub use edges::corners;
 pub use edges::exact_lengths;
 pub use edges::later_ends;
 pub use edges::list_corners;
@@ -15,6 +16,7 @@ pub use edges::lists;
 pub use edges::longer_lengths;
 pub use edges::no_places;
 pub use edges::over_others;
+pub use edges::rows_of;
 use pool::Pool;
 use pool::Tranche;
 pub use random::Calls;
@@ -26,6 +28,7 @@ pub use tranches::array_of;
 use tranches::one;
 pub use tranches::refused_tranche;
 pub use tranches::repeated;
+pub use tranches::spread;
 pub use tranches::tranche_of;
 pub use tranches::with;
 use tranches::write_tranche;
@@ -36,9 +39,20 @@ use trial_support::write_field;
 use trial_support::write_integer;
 use trial_support::write_number;
 
+// The places of a store that are lent where enough are: for up to 64 assets, and for more.
 const PLACES: usize = 2_150;
 
+const LARGE_PLACES: usize = 5_156;
+
+// Those of a list.
 pub const ROWS: usize = 70;
+
+pub const LARGE_ROWS: usize = 106;
+
+// The fewest assets that the calls refuse by 1, and the shift list.
+const BEYOND: u32 = 101;
+
+const BEYOND_REPORT: u32 = 65;
 
 // What every place holds at first.
 const MARK: u32 = 1_000_000_007;
@@ -175,20 +189,49 @@ fn write_other(call: Call, other: Pool) {
     write(b" ");
 }
 
-// What a call was given. Where there is another pool the arrays are lent whole, and no lengths are written.
+// The assets of the pool that a row is read for, where the store is another's.
+fn write_reader(call: Call, other: Pool, pool: Pool) {
+    if let Call::Row(_) = call {
+        if pool.assets != other.assets {
+            write(b" of");
+            write_field(pool.assets);
+        }
+    }
+}
+
+// What a call was given. Where there is another pool enough places are lent, and no lengths are written.
 fn write_given(other: Pool, call: Call, pool: Pool, lengths: Lengths) {
     if other.assets > 0 {
         write_other(call, other);
         write_call(call, pool);
+        write_reader(call, other, pool);
     } else {
         write_call(call, pool);
         write_lengths(call, lengths);
     }
 }
 
+// The checksum of an array of which so many places were lent: of the few for up to 64 assets, or of all where more were.
+fn write_naturals(places: &[u32], lent: usize, few: usize) {
+    if lent <= few && few <= places.len() {
+        write_checksum(&places[0..few], &[]);
+    } else {
+        write_checksum(places, &[]);
+    }
+}
+
+fn write_integers(places: &[i32], lent: usize, few: usize) {
+    if lent <= few && few <= places.len() {
+        write_checksum(&[], &places[0..few]);
+    } else {
+        write_checksum(&[], places);
+    }
+}
+
 // The end of a line: what the arrays hold, if the call writes to them.
 fn write_store(
     call: Call,
+    lengths: Lengths,
     low_significands: &[u32],
     high_significands: &[u32],
     low_exponents: &[i32],
@@ -199,10 +242,10 @@ fn write_store(
         return;
     }
     write(b" slices");
-    write_checksum(low_significands, &[]);
-    write_checksum(high_significands, &[]);
-    write_checksum(&[], low_exponents);
-    write_checksum(&[], high_exponents);
+    write_naturals(low_significands, lengths.0, PLACES);
+    write_naturals(high_significands, lengths.1, PLACES);
+    write_integers(low_exponents, lengths.2, PLACES);
+    write_integers(high_exponents, lengths.3, PLACES);
     write(b"\n");
 }
 
@@ -252,25 +295,25 @@ fn write_row(part: &[u32]) {
 }
 
 // The refusal, rows 0 to n where it is 0, and the checksum of what the rows were written to.
-fn write_column(pool: Pool, refusal: u32, units: &[u32]) {
+fn write_column(pool: Pool, refusal: u32, units: &[u32], lent: usize) {
     write_refusal(refusal);
     let rows = pool.assets as usize + 1;
     if refusal == 0 && rows <= units.len() {
         write_numbers(&units[0..rows], &[]);
     }
     write(b" rows");
-    write_checksum(units, &[]);
+    write_naturals(units, lent, ROWS);
 }
 
 // The refusal, entries 0 to n where it is 0, and the checksum of what the list was written to.
-fn write_shifts(pool: Pool, refusal: u32, shifts: &[i32]) {
+fn write_shifts(pool: Pool, refusal: u32, shifts: &[i32], lent: usize) {
     write_refusal(refusal);
     let entries = pool.assets as usize + 1;
     if refusal == 0 && entries <= shifts.len() {
         write_numbers(&[], &shifts[0..entries]);
     }
     write(b" list");
-    write_checksum(&[], shifts);
+    write_integers(shifts, lent, ROWS);
 }
 
 fn column(
@@ -312,7 +355,7 @@ fn answer_column(
     low_exponents: &mut [i32],
     high_exponents: &mut [i32],
 ) {
-    let mut units = [MARK; ROWS];
+    let mut units = [MARK; LARGE_ROWS];
     let refusal = column(
         library,
         pool,
@@ -322,7 +365,7 @@ fn answer_column(
         high_exponents,
         first_naturals(&mut units, length),
     );
-    write_column(pool, refusal, &units);
+    write_column(pool, refusal, &units, length);
 }
 
 fn answer_shifts(
@@ -333,7 +376,7 @@ fn answer_shifts(
     low_exponents: &mut [i32],
     high_exponents: &mut [i32],
 ) {
-    let mut shifts = [INTEGER_MARK; ROWS];
+    let mut shifts = [INTEGER_MARK; LARGE_ROWS];
     let refusal = shift::shift_list(
         pool,
         low_significands,
@@ -342,7 +385,7 @@ fn answer_shifts(
         high_exponents,
         first_integers(&mut shifts, length),
     );
-    write_shifts(pool, refusal, &shifts);
+    write_shifts(pool, refusal, &shifts, length);
 }
 
 // Makes a call that each library has, and writes what it answers.
@@ -425,10 +468,10 @@ fn answer(
 
 // Runs a call on arrays that hold another pool's store. A pool of no assets is refused, and leaves the marks.
 fn run_on(other: Pool, call: Call, pool: Pool, lengths: Lengths) {
-    let mut low_significands = [MARK; PLACES];
-    let mut high_significands = [MARK; PLACES];
-    let mut low_exponents = [INTEGER_MARK; PLACES];
-    let mut high_exponents = [INTEGER_MARK; PLACES];
+    let mut low_significands = [MARK; LARGE_PLACES];
+    let mut high_significands = [MARK; LARGE_PLACES];
+    let mut low_exponents = [INTEGER_MARK; LARGE_PLACES];
+    let mut high_exponents = [INTEGER_MARK; LARGE_PLACES];
     pool::fill(
         other,
         &mut low_significands,
@@ -447,6 +490,7 @@ fn run_on(other: Pool, call: Call, pool: Pool, lengths: Lengths) {
     );
     write_store(
         call,
+        lengths,
         &low_significands,
         &high_significands,
         &low_exponents,
@@ -459,24 +503,71 @@ pub fn run(call: Call, pool: Pool, lengths: Lengths) {
     run_on(pool_of(0, 0, 0), call, pool, lengths);
 }
 
-fn ample() -> Lengths {
-    Lengths(PLACES, PLACES, PLACES, PLACES)
+fn beyond(call: Call) -> u32 {
+    match call {
+        Call::Shifts(_) => BEYOND_REPORT,
+        _ => BEYOND,
+    }
 }
 
-// On marked arrays, whole.
+fn alike(length: usize) -> Lengths {
+    Lengths(length, length, length, length)
+}
+
+pub fn whole() -> Lengths {
+    alike(LARGE_PLACES)
+}
+
+// Enough places for a pool that the call accepts.
+fn ample(call: Call, pool: Pool) -> Lengths {
+    if (64 < pool.assets) & (pool.assets < beyond(call)) {
+        return whole();
+    }
+    alike(PLACES)
+}
+
+// On enough places of marked arrays.
 pub fn run_ample(call: Call, pool: Pool) {
-    run(call, pool, ample());
+    run(call, pool, ample(call, pool));
 }
 
-// On arrays, whole, that hold another pool's store.
+// On enough places of arrays that hold another pool's store.
 pub fn run_over(other: Pool, call: Call, pool: Pool) {
-    run_on(other, call, pool, ample());
+    if other.assets > 64 {
+        run_on(other, call, pool, whole());
+    } else {
+        run_on(other, call, pool, ample(call, pool));
+    }
+}
+
+fn write_filled(pool: Pool, k: u32, low_significands: &[u32]) {
+    write_given(pool, Call::Row(k), pool, whole());
+    write_row(pool::row(pool.assets, k, low_significands));
+    write(b"\n");
+}
+
+// The first rows of the pool's own store.
+pub fn filled_rows(pool: Pool, count: u32) {
+    let mut low_significands = [MARK; LARGE_PLACES];
+    let mut high_significands = [MARK; LARGE_PLACES];
+    let mut low_exponents = [INTEGER_MARK; LARGE_PLACES];
+    let mut high_exponents = [INTEGER_MARK; LARGE_PLACES];
+    pool::fill(
+        pool,
+        &mut low_significands,
+        &mut high_significands,
+        &mut low_exponents,
+        &mut high_exponents,
+    );
+    for k in 0..count {
+        write_filled(pool, k, &low_significands);
+    }
 }
 
 // Each place holds its own number.
-fn numbered() -> [u32; PLACES] {
-    let mut places = [0u32; PLACES];
-    for i in 0..PLACES {
+fn numbered() -> [u32; LARGE_PLACES] {
+    let mut places = [0u32; LARGE_PLACES];
+    for i in 0..LARGE_PLACES {
         places[i] = i as u32;
     }
     places

@@ -1,5 +1,8 @@
 // Random pools and tranches.
+use crate::BEYOND;
+use crate::BEYOND_REPORT;
 use crate::Call;
+use crate::LARGE_ROWS;
 use crate::Library;
 use crate::ROWS;
 use crate::Records;
@@ -11,13 +14,15 @@ use pool::Tranche;
 use trial_support::next;
 
 // Which calls are run: fill, column and loss; the shift list; column and loss of pools of 1 to 20 assets, by the library and on the
-// screen; column and loss of the beta-binomial; the losses of several tranches by each library.
+// screen; column and loss of the beta-binomial; the losses of several tranches by each library; column and losses by both
+// models, of pools of 65 to 100 assets.
 pub enum Calls {
     Library,
     Shifts,
     Screen,
     Beta,
     Losses,
+    Large,
 }
 
 // The random word so many words later.
@@ -54,15 +59,15 @@ fn basis_points(word: u64) -> u32 {
     (rest % 10_001) as u32
 }
 
-// One in eight 0 or 65, one in four from 60 to 64, one in eight from 1 to 64; else from 1 to 20.
-fn assets(word: u64) -> u32 {
+// One in eight 0 or the number that is given, one in four from 60 to 64, one in eight from 1 to 64; else from 1 to 20.
+fn assets(word: u64, beyond: u32) -> u32 {
     let kind = word % 16;
     let rest = word >> 8;
     if kind == 0 {
         return 0;
     }
     if kind == 1 {
-        return 65;
+        return beyond;
     }
     if kind < 6 {
         return (60 + rest % 5) as u32;
@@ -74,8 +79,8 @@ fn assets(word: u64) -> u32 {
 }
 
 // Every second large pool has probability 1 and correlation 0: the losses of its highest tranches are about 2^−800.
-fn random_pool(word: u64) -> Pool {
-    let assets = assets(word);
+fn random_pool(word: u64, beyond: u32) -> Pool {
+    let assets = assets(word, beyond);
     let second = next(word);
     if assets > 55 && second % 2 == 0 {
         return Pool {
@@ -98,6 +103,16 @@ fn small_pool(word: u64) -> Pool {
         assets: (1 + (word >> 8) % 20) as u32,
         probability: basis_points(second),
         correlation: basis_points(next(second)),
+    }
+}
+
+// Of 65 to 100 assets, with probability and correlation brought into range.
+fn large_pool(word: u64) -> Pool {
+    let second = next(word);
+    Pool {
+        assets: (65 + (word >> 8) % 36) as u32,
+        probability: basis_points(second) % 10_001,
+        correlation: basis_points(next(second)) % 10_001,
     }
 }
 
@@ -155,8 +170,15 @@ fn run_losses(pool: Pool, small: Pool, tranches: Tranches) {
     run_ample(Call::Losses(Library::BetaBinomial, tranches), pool);
 }
 
+fn run_large(pool: Pool, tranches: Tranches) {
+    run_ample(Call::Column(Library::Pool, LARGE_ROWS), pool);
+    run_ample(Call::Column(Library::BetaBinomial, LARGE_ROWS), pool);
+    run_ample(Call::Losses(Library::Pool, tranches), pool);
+    run_ample(Call::Losses(Library::BetaBinomial, tranches), pool);
+}
+
 fn run_calls(calls: Calls, word: u64) {
-    let pool = random_pool(word);
+    let pool = random_pool(word, BEYOND);
     let small = small_pool(word);
     let fourth = after(word, 3);
     let tranche = random_tranche(fourth);
@@ -166,7 +188,7 @@ fn run_calls(calls: Calls, word: u64) {
             run_ample(Call::Column(Library::Pool, ROWS), pool);
             run_ample(Call::Loss(Library::Pool, tranche), pool);
         }
-        Calls::Shifts => run_ample(Call::Shifts(ROWS), pool),
+        Calls::Shifts => run_ample(Call::Shifts(ROWS), random_pool(word, BEYOND_REPORT)),
         Calls::Screen => {
             run_ample(Call::Column(Library::Pool, ROWS), small);
             run_ample(Call::Column(Library::Screen, ROWS), small);
@@ -178,6 +200,7 @@ fn run_calls(calls: Calls, word: u64) {
             run_ample(Call::Loss(Library::BetaBinomial, tranche), pool);
         }
         Calls::Losses => run_losses(pool, small, random_tranches(fourth)),
+        Calls::Large => run_large(large_pool(word), random_tranches(fourth)),
     }
 }
 
@@ -186,6 +209,7 @@ fn case(word: u64, calls: Calls) -> u64 {
     run_calls(calls, word);
     match calls {
         Calls::Losses => after(word, 36),
+        Calls::Large => after(word, 36),
         _ => after(word, 7),
     }
 }

@@ -92,6 +92,20 @@ pub fn one(tranche: Tranche) -> Tranches {
     }
 }
 
+// Eight recoveries. Some tranches overlap, some touch, and two are untouched in every pool.
+pub fn spread() -> Records {
+    Records(
+        tranche_of(4_000, 1_000, 3_000),
+        tranche_of(10_000, 0, 10_000),
+        tranche_of(2_500, 3_000, 7_000),
+        tranche_of(7_000, 2_000, 5_000),
+        tranche_of(0, 0, 10_000),
+        tranche_of(6_000, 4_000, 10_000),
+        tranche_of(9_999, 0, 1),
+        tranche_of(5_000, 4_999, 5_000),
+    )
+}
+
 // ---- writing
 
 // The one tranche of a line.

@@ -14,6 +14,7 @@ use trial_pool::no_places;
 use trial_pool::over_others;
 use trial_pool::pool_of;
 use trial_pool::row;
+use trial_pool::rows_of;
 use trial_pool::run;
 use trial_pool::run_ample;
 use trial_pool::run_over;
@@ -31,7 +32,7 @@ fn fill_pools() {
     fill_ample(0, 1_000, 3_000);
     fill_ample(1, 1_000, 3_000);
     fill_ample(64, 1_000, 3_000);
-    fill_ample(65, 1_000, 3_000);
+    fill_ample(101, 1_000, 3_000);
     fill_ample(0xffff_ffff, 1_000, 3_000);
     fill_ample(3, 10_000, 3_000);
     fill_ample(3, 10_001, 3_000);
@@ -40,7 +41,7 @@ fn fill_pools() {
     fill_ample(3, 1_000, 10_001);
     fill_ample(3, 1_000, 0xffff_ffff);
     fill_ample(64, 10_000, 3_000);
-    fill_ample(65, 10_001, 3_000);
+    fill_ample(101, 10_001, 3_000);
     fill_ample(0, 10_001, 10_001);
     fill_ample(3, 10_001, 10_001);
 }
@@ -52,7 +53,7 @@ fn fill_ends(assets: u32) {
 }
 
 fn fill_lengths(assets: u32, exact: usize, short: usize)
-    requires { ⌜ exact ≤ 2145 ⌝ }
+    requires { ⌜ exact ≤ 5151 ⌝ }
 {
     let pool = pool_of(assets, 1_000, 3_000);
     exact_lengths(Call::Fill, pool, exact, short);
@@ -73,17 +74,6 @@ fn fills() {
 
 // ---- a row
 
-fn rows_of(n: u32, exact: usize, short: usize)
-    requires { ⌜ n ≤ 64 ⌝ ∗ ⌜ exact ≤ 2145 ⌝ }
-{
-    row(n, 0, exact);
-    row(n, 1, exact + 5);
-    row(n, n, exact);
-    row(n, n + 1, exact);
-    row(n, n, short);
-    row(n, n + 1, short);
-}
-
 fn rows() {
     rows_of(1, 3, 2);
     rows_of(3, 10, 9);
@@ -92,8 +82,8 @@ fn rows() {
     row(64, 63, 2_145);
     row(0, 0, 2_145);
     row(0, 0, 0);
-    row(65, 0, 2_150);
-    row(65, 66, 0);
+    row(101, 0, 2_150);
+    row(101, 102, 0);
     row(0xffff_ffff, 0xffff_ffff, 0);
     row(64, 0xffff_ffff, 2_145);
 }
@@ -165,7 +155,7 @@ fn loss_pools() {
     loss_pool(1, 0, 3_000, 0, 0, 10_000);
     loss_pool(1, 10_000, 0, 0, 0, 10_000);
     loss_pool(0, 1_000, 3_000, 10_001, 0, 10_000);
-    loss_pool(65, 1_000, 3_000, 4_000, 0, 10_000);
+    loss_pool(101, 1_000, 3_000, 4_000, 0, 10_000);
     loss_pool(3, 10_001, 3_000, 10_001, 0, 10_000);
     loss_pool(3, 1_000, 10_001, 10_001, 0, 10_000);
 }
@@ -176,7 +166,7 @@ fn loss_from(lower: u32) -> Call {
 }
 
 fn loss_lengths(assets: u32, exact: usize, short: usize)
-    requires { ⌜ exact ≤ 2145 ⌝ }
+    requires { ⌜ exact ≤ 5151 ⌝ }
 {
     let pool = pool_of(assets, 1_000, 3_000);
     exact_lengths(loss_from(1_000), pool, exact, short);

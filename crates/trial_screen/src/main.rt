@@ -3,6 +3,7 @@
 use pool::Pool;
 use trial_pool::Call;
 use trial_pool::Calls;
+use trial_pool::LARGE_ROWS;
 use trial_pool::Lengths;
 use trial_pool::Library;
 use trial_pool::List;
@@ -23,8 +24,8 @@ fn column_of(places: usize) -> Call {
     Call::Column(Library::Screen, places)
 }
 
-fn column(assets: u32, probability: u32, correlation: u32) {
-    run_ample(column_of(ROWS), pool_of(assets, probability, correlation));
+fn column(places: usize, assets: u32, probability: u32, correlation: u32) {
+    run_ample(column_of(places), pool_of(assets, probability, correlation));
 }
 
 // A pool of probability 1,000 and correlation 3,000.
@@ -41,19 +42,19 @@ fn none() -> Lengths {
 }
 
 // Nothing wrong, then everything.
-fn around(assets: u32) {
+fn around(places: usize, assets: u32) {
     let wrong = pool_of(assets, 10_001, 10_001);
-    column(assets, 1_000, 3_000);
+    column(places, assets, 1_000, 3_000);
     run_ample(loss(4_000, 1_000, 3_000), pool(assets));
     run(column_of(0), wrong, none());
     run(loss(10_001, 10_001, 10_001), wrong, none());
 }
 
 // One thing wrong at a time.
-fn each_wrong(assets: u32) {
-    column(assets, 10_001, 3_000);
-    column(assets, 1_000, 10_001);
-    run(column_of(ROWS), pool(assets), none());
+fn each_wrong(places: usize, assets: u32) {
+    column(places, assets, 10_001, 3_000);
+    column(places, assets, 1_000, 10_001);
+    run(column_of(places), pool(assets), none());
     run_ample(column_of(0), pool(assets));
     run_ample(loss(0, 0, 10_000), pool_of(assets, 10_001, 3_000));
     run_ample(loss(0, 0, 10_000), pool_of(assets, 1_000, 10_001));
@@ -65,7 +66,7 @@ fn each_wrong(assets: u32) {
 
 // Two things wrong: the first ground in the order is given.
 fn two_wrong(assets: u32) {
-    column(assets, 10_001, 10_001);
+    column(ROWS, assets, 10_001, 10_001);
     run(column_of(ROWS), pool_of(assets, 1_000, 10_001), none());
     run(column_of(0), pool(assets), none());
     run_ample(loss(0, 0, 10_000), pool_of(assets, 10_001, 10_001));
@@ -92,17 +93,21 @@ fn losses(assets: u32, exact: usize, short: usize) {
 }
 
 fn edges() {
-    around(0);
-    around(1);
-    around(20);
-    around(21);
-    around(64);
-    around(65);
-    around(0xffff_ffff);
-    each_wrong(20);
-    each_wrong(21);
-    each_wrong(64);
-    each_wrong(65);
+    around(ROWS, 0);
+    around(ROWS, 1);
+    around(ROWS, 20);
+    around(ROWS, 21);
+    around(ROWS, 64);
+    around(ROWS, 101);
+    around(ROWS, 0xffff_ffff);
+    each_wrong(ROWS, 20);
+    each_wrong(ROWS, 21);
+    each_wrong(ROWS, 64);
+    each_wrong(ROWS, 101);
+    around(LARGE_ROWS, 65);
+    each_wrong(LARGE_ROWS, 65);
+    around(LARGE_ROWS, 100);
+    each_wrong(LARGE_ROWS, 100);
     two_wrong(20);
     lists(List::Column(Library::Screen));
     list_lengths(List::Column(Library::Screen), 20, 231, 230, 21);

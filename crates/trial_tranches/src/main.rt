@@ -21,6 +21,7 @@ use trial_pool::repeated;
 use trial_pool::run;
 use trial_pool::run_ample;
 use trial_pool::run_over;
+use trial_pool::spread;
 use trial_pool::tranche_of;
 use trial_pool::with;
 ghost use Prim.Native.Nat.{_≤_};
@@ -39,20 +40,6 @@ fn three(library: Library, count: u32, records: Records) {
 
 fn without_places(library: Library, count: u32, records: Records, pool: Pool) {
     run(losses(library, count, records), pool, Lengths(0, 0, 0, 0));
-}
-
-// Eight recoveries. Some tranches overlap, some touch, and two are untouched in every pool.
-fn spread() -> Records {
-    Records(
-        tranche_of(4_000, 1_000, 3_000),
-        tranche_of(10_000, 0, 10_000),
-        tranche_of(2_500, 3_000, 7_000),
-        tranche_of(7_000, 2_000, 5_000),
-        tranche_of(0, 0, 10_000),
-        tranche_of(6_000, 4_000, 10_000),
-        tranche_of(9_999, 0, 1),
-        tranche_of(5_000, 4_999, 5_000),
-    )
 }
 
 // For 64 assets, probability 1 and correlation 0: four losses around 2^−800, one far below it twice, one far above it, and 0.
@@ -181,7 +168,7 @@ fn order_of(library: Library, tranche: Tranche) {
 
 fn order(library: Library) {
     order_in(library, pool(0));
-    order_in(library, pool(65));
+    order_in(library, pool(101));
     order_in(library, pool(21));
     order_in(library, pool_of(64, 1_000, 10_000));
     order_in(library, pool_of(3, 10_001, 3_000));
@@ -198,7 +185,7 @@ fn order(library: Library) {
 
 // Also on the stores of other pools, which a refusal leaves.
 fn lengths(library: Library, assets: u32, exact: usize, short: usize)
-    requires { ⌜ exact ≤ 2145 ⌝ }
+    requires { ⌜ exact ≤ 5151 ⌝ }
 {
     let call = losses(library, 8, spread());
     let other = pool_of(10, 500, 250);

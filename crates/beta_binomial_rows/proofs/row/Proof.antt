@@ -3,9 +3,11 @@
 use Prim.Native.Nat.{suc, _-_, _≤_}
 use mathlib.Core.Path.{_≡_, refl}
 use borrow.Author.Needs.{needs}
+use native.Mathlib.Nat.{le-trans}
 use native.Mathlib.Omega.{arith}
 use Rattle.steps.specs.BetaBinomial.{keptEntry}
-use Rattle.steps.specs.Inputs.{largestPool, workingAssets}
+use Rattle.steps.specs.Inputs.{workingAssets}
+use Rattle.steps.specs.Inputs.Laws.{pool-works}
 use Rattle.working.specs.Working.{workingPlaces, Entries}
 use Rattle.working.specs.Working.Laws.{entries-none, entries-more}
 use Rattle.beta_binomial_rows.proofs.row.Statement.{statement}
@@ -17,9 +19,8 @@ Inv-loop n p rho side row₀ end j₀ row j = (j ≤ suc n) × Entries workingPl
 abbrev μ-loop : tie.MeasureT-loop
 μ-loop n p rho side row₀ end j₀ row j = suc n - j
 
-few : (c : tie.Start Inv-loop μ-loop) → c .args .n ≤ 64
-unfolding largestPool
-few c = c .pre .0 .assets
+few : (c : tie.Start Inv-loop μ-loop) → c .args .n ≤ workingAssets
+few c = le-trans (c .pre .0 .assets) pool-works
 
 loop-again : tie.Need-loop-again Inv-loop μ-loop
 unfolding workingPlaces workingAssets

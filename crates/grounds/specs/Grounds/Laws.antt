@@ -1,5 +1,5 @@
--- The first ground of two lists, what the inputs of an accepted call are, that tranches past the count play no part, when a column is refused as its pool is,
--- and when the screen and the beta-binomial refuse as the library.
+-- The first ground of two lists, what the inputs of an accepted call are, that tranches past the count play no part, when a column is answered, and when the
+-- screen and the beta-binomial refuse as the library.
 -- Assumes nothing.
 use Prim.Native.Nat.{ℕ, zero, suc, _+_, _*_, _≤_, _<_}
 use mathlib.Core.Path.{_≡_, refl, sym, ap, subst, _∙_}
@@ -15,7 +15,8 @@ use Rattle.model.specs.Fraction.{whole}
 use Rattle.model.specs.Number.{triangle}
 use Rattle.model.specs.Number.Laws.{triangle-closed, triangle-mono}
 use Rattle.steps.specs.declared.Tranche.{Tranche}
-use Rattle.steps.specs.Inputs.{TrancheInRange}
+use Rattle.steps.specs.Inputs.{largestPool, reportPool, TrancheInRange}
+use Rattle.steps.specs.Inputs.Laws.{report-range}
 use Rattle.steps.specs.Tranches.{tranchePlaces, trancheAt}
 use Rattle.grounds.specs.Grounds.{Ground, firstOf, firstGround, storePlaces, someShorter, assetsGround, probabilityGround, correlationGround}
 use Rattle.grounds.specs.Grounds.{recoveryGround, upperGround, attachmentsGround, storeGround, entriesGround, rowGround, screenGround, fullCorrelationGround}
@@ -37,15 +38,11 @@ start-word {k} l =
 
 -- ---- the first of two
 
--- Where the first decides alone.
-first-alone : (a b : ℕ) → (a ≡ 0 → b ≡ 0) → firstOf a b ≡ a
-unfolding firstOf
-first-alone zero b none = none refl
-first-alone (suc a) b none = refl
-
 -- The last of a list.
 pub first-last : (a : ℕ) → firstOf a 0 ≡ a
-first-last a = first-alone a 0 (λ _. refl)
+unfolding firstOf
+first-last zero = refl
+first-last (suc a) = refl
 
 -- Where there is a first.
 pub first-some : (a b : ℕ) → (a ≡ 0 → ⊥) → a ≡ firstOf a b
@@ -149,6 +146,10 @@ pool-accepted most n p ρ is none =
         correlation = ltb-false whole ρ (off .1 .1 .0);
       };
     }
+
+-- A pool that a report accepts is one that the library accepts.
+pub report-accepted : {n p ρ : ℕ} → PoolAccepted reportPool n p ρ → PoolAccepted largestPool n p ρ
+report-accepted pool = record { not-empty = pool .not-empty; range = report-range (pool .range) }
 
 tranche-accepted : {r : ℕ} (R A B : ℕ) → r ≡ firstGround (trancheGrounds R A B) → r ≡ 0 → TrancheInRange R A B
 unfolding trancheGrounds recoveryGround upperGround attachmentsGround
@@ -303,36 +304,30 @@ module _ {ts : List Tranche} {count : ℕ} where
 -- ---- the refusal of a pool
 
 -- Its number is 3 at most.
-pub pool-refusal-at-most : (most n p ρ : ℕ) → firstGround (poolGrounds most n p ρ) ≤ 3
+pub pool-refusal-at-most : {r : ℕ} (most n p ρ : ℕ) → r ≡ firstGround (poolGrounds most n p ρ) → r ≤ 3
 unfolding poolGrounds assetsGround probabilityGround correlationGround
-pool-refusal-at-most most n p ρ = leb→le _ 3 (first-meets (λ x. leb x 3) (poolGrounds most n p ρ) tt tt)
+pool-refusal-at-most most n p ρ is = rw is (leb→le _ 3 (first-meets (λ x. leb x 3) (poolGrounds most n p ρ) tt tt))
 
 none-shorter : {m m′ : ℕ} (ls : List ℕ) → m ≤ m′ → EachAtLeast m′ ls → someShorter m ls ≡ false
 unfolding someShorter
 none-shorter [] few each = refl
 none-shorter {m} (l ∷ ls) few each = rw (le-ltb l m (le-trans few (each .0))) (none-shorter ls few (each .1))
 
--- With slices that have room for the ceiling, a column is refused as its pool is: 7 and 8 apply to no pool that 1 to 3 accept.
-pub column-refused-as-pool : (most n p ρ : ℕ) (lengths : List ℕ) (units : ℕ) → EachAtLeast (triangle (suc most)) lengths → most < units
-    → firstGround (columnGrounds most n p ρ lengths units) ≡ firstGround (poolGrounds most n p ρ)
-unfolding firstOf firstGround columnGrounds entriesGrounds fillGrounds storeGround entriesGround
-column-refused-as-pool most n p ρ lengths units store column =
+-- With slices that have room for so many assets, no column of at most so many is refused whose pool is accepted.
+pub column-answered : (most room n p ρ : ℕ) (lengths : List ℕ) (units : ℕ) → PoolAccepted most n p ρ → n ≤ room → EachAtLeast (triangle (suc room)) lengths
+    → room < units → firstGround (columnGrounds most n p ρ lengths units) ≡ 0
+unfolding firstOf firstGround columnGrounds entriesGrounds fillGrounds poolGrounds assetsGround probabilityGround correlationGround storeGround entriesGround
+column-answered most room n p ρ lengths units pool few store column =
+    let some : n ≡ 0 → ⊥ = λ none. omega (arith, pool .not-empty) in
+    let places : storePlaces n ≤ triangle (suc room) = rw store-places (triangle-mono (omega arith)) in
     rw (
-      ← first-append (fillGrounds most n p ρ lengths) (entriesGround 8 n units ∷ []),
-      ← first-append (poolGrounds most n p ρ) (storeGround n lengths ∷ []),
-      first-alone (firstGround (poolGrounds most n p ρ)) _ no-store,
-    ) (first-alone (firstGround (poolGrounds most n p ρ)) _ no-column)
-  where
-    few : firstGround (poolGrounds most n p ρ) ≡ 0 → n ≤ most
-    few none = pool-accepted most n p ρ refl none .range .assets
-
-    no-store : firstGround (poolGrounds most n p ρ) ≡ 0 → firstGround (storeGround n lengths ∷ []) ≡ 0
-    no-store none =
-        let places : storePlaces n ≤ triangle (suc most) = rw store-places (triangle-mono (omega (arith, few none))) in
-        rw (none-shorter lengths places store) refl
-
-    no-column : firstGround (poolGrounds most n p ρ) ≡ 0 → firstGround (entriesGround 8 n units ∷ []) ≡ 0
-    no-column none = rw (le-ltb units (n + 1) (omega (arith, few none))) refl
+      ne-eqb n 0 some,
+      le-ltb most n (pool .range .assets),
+      le-ltb whole p (pool .range .probability),
+      le-ltb whole ρ (pool .range .correlation),
+      none-shorter lengths places store,
+      le-ltb units (n + 1) (omega arith),
+    ) refl
 
 -- Below full correlation, and above it, the beta-binomial refuses a pool as the library does.
 pub beta-refused-as-pool : (most n p ρ : ℕ) → (ρ ≡ whole → ⊥) → firstGround (betaPoolGrounds most n p ρ) ≡ firstGround (poolGrounds most n p ρ)

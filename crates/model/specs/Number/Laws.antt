@@ -1,4 +1,4 @@
--- Laws of finite sums and products, differences, integers raised to zero, binomial coefficients and triangle numbers.
+-- Laws of finite sums and products, differences, integers raised to zero, binomial coefficients, Pascal's triangle and triangle numbers.
 -- Assumes nothing.
 use Prim.Native.Nat.{ℕ, zero, suc, _+_, _*_, _-_, _^_, _≤_, _<_, min, suc-le-suc}
 use mathlib.Core.Path.{_≡_, refl, sym, ap, ap₂, _∙_}
@@ -8,7 +8,7 @@ use native.Mathlib.Omega.{arith}
 use borrow.Author.Tests.{lt-ltb, le-ltb}
 use lib.Pow.{pow-pos}
 use lib.IntN.{ℤ, pos, negsuc, negℤ, natAbs, _+ℤ_, _-ℤ_, _*ℤ_, +ℤ-assoc, +ℤ-comm, negℤ-+ℤ}
-use Rattle.model.specs.Number.{sum, sumBetween, product, productBetween, integerSum, signed, alternatingSum, choose, factorial, triangle, binomialSum, cut, raise}
+use Rattle.model.specs.Number.{sum, sumBetween, product, productBetween, integerSum, signed, alternatingSum, choose, pascalRow, factorial, triangle, binomialSum, cut, raise}
 
 -- ---- sums
 
@@ -211,6 +211,11 @@ choose-at-most zero zero = pow-pos 0
 choose-at-most zero (suc i) = omega arith
 choose-at-most (suc n) i = le-of-lt (choose-below n i)
 
+pub choose-all : (n : ℕ) → choose n n ≡ 1
+unfolding choose
+choose-all zero = refl
+choose-all (suc n) = omega (arith, choose-all n, choose-past n (suc n) (lt-suc-self n))
+
 -- (i+1) × C(n+1,i+1) = (n+1) × C(n,i)
 pub choose-absorb : (n i : ℕ) → suc i * choose (suc n) (suc i) ≡ suc n * choose n i
 unfolding choose
@@ -226,6 +231,37 @@ choose-factorial zero j = rw zero-add (omega arith)
 choose-factorial (suc i) j =
     rw suc-add
     (omega (arith, ap (λ z. z * (factorial i * factorial j)) (choose-absorb (i + j) i), ap (λ z. suc (i + j) * z) (choose-factorial i j)))
+
+-- ---- Pascal's triangle
+
+module _ {A : Type 0} (one : A) (plus : A → A → A) where
+  pub pascal-inside : (k j : ℕ) → j < k → pascalRow one plus (suc k) (suc j) ≡ plus (pascalRow one plus k j) (pascalRow one plus k (suc j))
+  unfolding pascalRow
+  pascal-inside k j l = rw (lt-ltb j k l) refl
+
+  pub pascal-past : (k j : ℕ) → k ≤ j → pascalRow one plus k j ≡ one
+  unfolding pascalRow
+  pascal-past k zero l = refl
+  pascal-past zero (suc j) l = refl
+  pascal-past (suc k) (suc j) l = rw (le-ltb j k (omega arith)) refl
+
+  -- What holds of both ends of a row, and of every sum of two entries of which it holds, holds of all entries.
+  pub pascal-holds : (P : ℕ → ℕ → A → Type 0) → ((k : ℕ) → P k 0 one) → ((k : ℕ) → P k k one)
+      → ((k j : ℕ) (x y : A) → j < k → P k j x → P k (suc j) y → P (suc k) (suc j) (plus x y)) → (k j : ℕ) → j ≤ k → P k j (pascalRow one plus k j)
+  unfolding pascalRow
+  pascal-holds P first last sums k zero l = first k
+  pascal-holds P first last sums zero (suc j) l = absurd (omega arith)
+  pascal-holds P first last sums (suc k) (suc j) l = elim (decLe k j) [
+    | yes end ↦ let same : j ≡ k = omega arith in rw (le-ltb j k end, same) (last (suc k))
+    | no inside ↦
+        rw (lt-ltb j k (omega arith))
+        (sums k j _ _ (omega arith) (pascal-holds P first last sums k j (omega arith)) (pascal-holds P first last sums k (suc j) (omega arith)))
+  ]
+
+-- With whole numbers it is that of the binomial coefficients.
+pub pascal-choose : (k j : ℕ) → j ≤ k → pascalRow 1 _+_ k j ≡ choose k j
+unfolding choose
+pascal-choose = pascal-holds 1 _+_ (λ k j x. x ≡ choose k j) (λ k. refl) (λ k. sym (choose-all k)) (λ k j x y l left right. rw (left, right) refl)
 
 -- ---- binomial sums
 

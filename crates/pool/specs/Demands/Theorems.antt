@@ -10,7 +10,7 @@ use lib.ListN.{length, getD, take, drop, length-take, length-map, getD-replicate
 use lib.Seq.{getD-take}
 use Rattle.model.specs.Number.{triangle}
 use Rattle.model.specs.Number.Laws.{triangle-closed}
-use Rattle.model.specs.Fraction.{Fraction, Same, AtMost}
+use Rattle.model.specs.Fraction.{Fraction, Same, AtMost, integer}
 use Rattle.model.specs.Fraction.Laws.{same-refl}
 use Rattle.model.specs.Chances.{Chances, chance}
 use Rattle.model.specs.CorrelatedBinomial.{defaults}
@@ -28,7 +28,8 @@ use Rattle.steps.specs.Loss.{untouched, raisedToShown, Says}
 use Rattle.steps.specs.Tranches.{tranchePlaces}
 use Rattle.steps.specs.Tranches.Laws.{answer-length, losses-untouched}
 use Rattle.steps.specs.Loss.Laws.{raised-greater, least-shown-value}
-use Rattle.steps.specs.Inputs.{largestPool, distanceFor, tenthsFor}
+use Rattle.steps.specs.Inputs.{largestPool, finePool, distanceFor, tenthsFor}
+use Rattle.steps.specs.Inputs.Laws.{up-to-both}
 use Rattle.steps.specs.Promises.{HoldsSteps, HoldsColumn, HoldsLoss}
 use Rattle.steps.specs.Chances.{keptTail}
 use Rattle.expected_losses.specs.Loss.{lossOf, lossesIn}
@@ -47,7 +48,7 @@ use Rattle.expected_losses.specs.declared.Answer.{Answer}
 use Rattle.store.specs.Stores.{Store, lengths, sideOf, place, storeAfter}
 use Rattle.store.specs.Calls.{LeavesStore, Fills, fillRefusal, HandsRow, rowRefusal}
 use Rattle.pool.specs.Calls.{columnRefusal, Prints, lossRefusal, RepliesLosses, Replies}
-use Rattle.pool.specs.Demands.{BoundDemands, StepsDemands, oneHalf, PrintedDemands, oneAndAHalf, Demand3Column, Slices, significandsOn, numberOn, from, TableDemands, StoreDemands, edge, LossDemands, TrancheDemands, lossAt, LossesDemands}
+use Rattle.pool.specs.Demands.{partsFor, BoundDemands, StepsDemands, oneHalf, PrintedDemands, oneAndAHalf, unitsOff, Demand3Column, Slices, significandsOn, numberOn, from, TableDemands, StoreDemands, edge, LossDemands, TrancheDemands, lossAt, LossesDemands}
 use Rattle.pool.specs.Demands.{FillDemands, RowDemands, EntriesDemands, ColumnDemandsBy, ColumnDemands, TranchesDemandsBy, TranchesDemands}
 
 -- The four slices of a store.
@@ -83,13 +84,13 @@ later-filled side n p ρ field old =
     let places : length (stored side p ρ field n) ≡ (n + 1) * (n + 2) / 2 = omega (arith, stored-length side p ρ field n, triangle-closed (suc n)) in
     overwritten-later (stored side p ρ field n) old places
 
-module _ {parts : ℕ} {pool : Pool} {before after : Store} {refusal : ℕ} (leaves : LeavesStore (λ _. parts) pool before after refusal) where
+module _ {parts : ℕ → ℕ} {pool : Pool} {before after : Store} {refusal : ℕ} (leaves : LeavesStore parts pool before after refusal) where
   -- A refused call leaves the store as it was.
   store-kept : (refusal ≡ 0 → ⊥) → after ≡ before
   unfolding storeAfter
   store-kept some = by-number refusal leaves some
     where
-      by-number : (r : ℕ) → LeavesStore (λ _. parts) pool before after r → (r ≡ 0 → ⊥) → after ≡ before
+      by-number : (r : ℕ) → LeavesStore parts pool before after r → (r ≡ 0 → ⊥) → after ≡ before
       by-number zero leaves some = absurd (some refl)
       by-number (suc r) leaves some = leaves .store-is
 
@@ -127,7 +128,7 @@ module _ {parts : ℕ} {pool : Pool} {before after : Store} {refusal : ℕ} (lea
   }
 
 pub fill-meets : {pool : Pool} {before after : Store} {refusal : ℕ} → Fills pool before after refusal → FillDemands pool (slices before) (slices after) refusal
-unfolding fillRefusal lengths largestPool distanceFor
+unfolding fillRefusal lengths largestPool finePool distanceFor partsFor
 fill-meets fills =
     let leaves = fills .leaves in
     record { one = record { number = fills .refusal-is; untouched = λ some. ap slices (store-kept leaves some) }; store = store-meets leaves }
@@ -163,30 +164,35 @@ printed-meet n low = record {
   next-above = λ k. in-units-next (keptTail Low n low (suc k));
 }
 
--- The column of any row whose offset is 1.5 units at most.
-pub rows-meet : {off : Fraction} {r : Chances} (low : ℕ → Kept) {units : List ℕ} → AtMost off oneAndAHalf → HoldsColumn off r low units
+-- 1.5 units, or 2.
+off-within : (n : ℕ) → AtMost (tenths (tenthsFor n)) (unitsOff n)
+unfolding tenths tenthsFor finePool unitsOff oneAndAHalf integer
+off-within n = up-to-both (λ t off. AtMost (tenths t) off) 64 n (λ _. record { cross = lit≤ tt }) (λ _. record { cross = lit≤ tt })
+
+-- The column of any row.
+pub rows-meet : {r : Chances} (low : ℕ → Kept) {units : List ℕ} → HoldsColumn (tenths (tenthsFor (r .assets))) r low units
     → Demand3Column (r .assets) (keptTail Low (r .assets) low) (printedTail (r .assets) low) (chance r) units
 unfolding unitsOfCertainty exactUnits
-rows-meet {r} low most holds = record {
+rows-meet {r} low holds = record {
   printed-is = printed-meet (r .assets) low;
   difference = holds .difference;
   total = holds .total;
-  not-above = λ k l. within-weaken most (holds .near k l) .not-above;
-  not-below = λ k l. within-weaken most (holds .near k l) .not-below;
+  not-above = λ k l. within-weaken (off-within (r .assets)) (holds .near k l) .not-above;
+  not-below = λ k l. within-weaken (off-within (r .assets)) (holds .near k l) .not-below;
 }
 
 module _ {pool : Pool} {before after : Store} {units units′ : List ℕ} {refusal : ℕ} where
-  -- Whatever list refuses, at any one distance.
-  pub column-meets-by : {refuses : Pool → Store → List ℕ → ℕ} {parts : ℕ} {grounds : List Ground} → Prints refuses (λ _. parts) pool before after units units′ refusal
+  -- Whatever list refuses, at any distances.
+  pub column-meets-by : {refuses : Pool → Store → List ℕ → ℕ} {parts : ℕ → ℕ} {grounds : List Ground} → Prints refuses parts pool before after units units′ refusal
       → refuses pool before units ≡ firstGround grounds → ColumnDemandsBy pool parts grounds (slices before) (slices after) units units′ refusal
-  unfolding tenths tenthsFor oneAndAHalf defaults
+  unfolding defaults
   column-meets-by prints is = record {
     leaves = entries-meet (prints .leaves) _ _ (prints .refusal-is ∙ is) (prints .prints .units-are);
-    column = λ none. rows-meet _ (record { cross = lit≤ tt }) (prints .prints .holds-column none);
+    column = λ none. rows-meet _ (prints .prints .holds-column none);
   }
 
   pub column-meets : Prints columnRefusal distanceFor pool before after units units′ refusal → ColumnDemands pool (slices before) (slices after) units units′ refusal
-  unfolding columnRefusal lengths largestPool distanceFor
+  unfolding columnRefusal lengths largestPool finePool distanceFor partsFor
   column-meets prints = column-meets-by prints refl
 
 -- ---- the loss
@@ -247,9 +253,9 @@ losses-meet {parts} {r} {c} {tranches} {count} answer eight replies = record {
 }
 
 module _ {pool : Pool} {tranches : List Tranche} {count : ℕ} {before after : Store} (answer : Answer) where
-  -- Whatever list refuses, at any one distance.
-  pub tranches-meet-by : {refuses : Pool → List Tranche → ℕ → Store → ℕ} {parts : ℕ} {grounds : List Ground} → length tranches ≡ 8
-      → Replies refuses (λ _. parts) pool tranches count before after (answer .refusal) (lossesIn (answer .losses))
+  -- Whatever list refuses, at any distances.
+  pub tranches-meet-by : {refuses : Pool → List Tranche → ℕ → Store → ℕ} {parts : ℕ → ℕ} {grounds : List Ground} → length tranches ≡ 8
+      → Replies refuses parts pool tranches count before after (answer .refusal) (lossesIn (answer .losses))
       → refuses pool tranches count before ≡ firstGround grounds → TranchesDemandsBy pool tranches count parts grounds (slices before) (slices after) answer
   tranches-meet-by eight replies first = record {
     one = record { number = replies .refusal-is ∙ first; untouched = λ some. ap slices (store-kept (replies .leaves) some) };
@@ -259,5 +265,5 @@ module _ {pool : Pool} {tranches : List Tranche} {count : ℕ} {before after : S
 
   pub tranches-meet : length tranches ≡ 8 → Replies lossRefusal distanceFor pool tranches count before after (answer .refusal) (lossesIn (answer .losses))
       → TranchesDemands pool tranches count (slices before) (slices after) answer
-  unfolding lossRefusal lengths largestPool distanceFor
+  unfolding lossRefusal lengths largestPool finePool distanceFor partsFor
   tranches-meet eight replies = tranches-meet-by eight replies refl

@@ -13,10 +13,10 @@ use Rattle.model.specs.CorrelatedBinomial.{defaults}
 use Rattle.kept.specs.declared.Side.the-variants.{Low}
 use Rattle.steps.specs.Column.{printedRow, tenths}
 use Rattle.steps.specs.CorrelatedBinomial.{keptDefaults}
-use Rattle.steps.specs.Inputs.{largestPool, distanceFor, tenthsFor}
+use Rattle.steps.specs.Inputs.{reportPool, distanceFor, tenthsFor}
 use Rattle.steps.specs.Promises.{HoldsColumn}
-use Rattle.grounds.specs.Grounds.{firstGround, poolGrounds, EachAtLeast}
-use Rattle.grounds.specs.Grounds.Laws.{column-refused-as-pool}
+use Rattle.grounds.specs.Grounds.{firstGround, poolGrounds, PoolAccepted, EachAtLeast}
+use Rattle.grounds.specs.Grounds.Laws.{report-accepted, column-answered}
 use Rattle.store.specs.declared.Pool.{Pool}
 use Rattle.store.specs.Stores.{Store, lengths}
 use Rattle.pool.specs.Calls.{columnRefusal, Prints}
@@ -38,18 +38,18 @@ carried {Answers} {text} {before} {reply} written answers =
       answers = rw parts answers;
     }
 
--- With slices that have room for the largest pool, the refusal of a column call is that of its pool.
-pub refused-as-pool : {pool : Pool} {before after : Store} {units units′ : List ℕ} {refusal : ℕ} → Prints columnRefusal distanceFor pool before after units units′ refusal
-    → EachAtLeast (triangle (suc largestPool)) (lengths before) → largestPool < length units
-    → refusal ≡ firstGround (poolGrounds largestPool (pool .assets) (pool .probability) (pool .correlation))
+-- With slices that have room for the largest pool of a report, a column call answers for every pool that a report accepts.
+pub answered : {pool : Pool} {before after : Store} {units units′ : List ℕ} {refusal : ℕ} → Prints columnRefusal distanceFor pool before after units units′ refusal
+    → PoolAccepted reportPool (pool .assets) (pool .probability) (pool .correlation) → EachAtLeast (triangle (suc reportPool)) (lengths before)
+    → reportPool < length units → refusal ≡ 0
 unfolding columnRefusal
-refused-as-pool prints store column = prints .refusal-is ∙ column-refused-as-pool _ _ _ _ _ _ store column
+answered prints pool store column = prints .refusal-is ∙ column-answered _ _ _ _ _ _ _ (report-accepted pool) (pool .range .assets) store column
 
 module _ {n p ρ : ℕ} where
-  pub refused-answer : {refusal : ℕ} → refusal ≡ firstGround (poolGrounds largestPool n p ρ) → (refusal ≡ 0 → ⊥) → AnswersPool n p ρ (refusedText refusal)
+  pub refused-answer : {refusal : ℕ} → refusal ≡ firstGround (poolGrounds reportPool n p ρ) → (refusal ≡ 0 → ⊥) → AnswersPool n p ρ (refusedText refusal)
   refused-answer is some = record { refused = λ _. ap refusedText is; table = λ none. absurd (some (is ∙ none)) }
 
-  pub table-answer : {units : List ℕ} → firstGround (poolGrounds largestPool n p ρ) ≡ 0
+  pub table-answer : {units : List ℕ} → firstGround (poolGrounds reportPool n p ρ) ≡ 0
       → HoldsColumn (tenths (tenthsFor n)) (defaults n p ρ) (keptDefaults Low n p ρ) units → AnswersPool n p ρ (columnText n units)
   unfolding printedRow defaults
   table-answer {units} none holds = record {

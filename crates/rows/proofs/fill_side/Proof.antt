@@ -46,7 +46,7 @@ room : (c : tie.In-loop Inv-loop μ-loop)
     → HasPlaces (c .before .loop .at + c .before .loop .k + 1 + suc (suc (c .before .loop .k))) (sideStore (c .before .loop .significands) (c .before .loop .exponents))
 room c = filling-room (c .before .loop .inv .1) (c .loop-test .taken)
 
-low : (c : tie.In-loop Inv-loop μ-loop) → c .before .loop .at ≤ 2080
+low : (c : tie.In-loop Inv-loop μ-loop) → c .before .loop .at ≤ 5050
 unfolding triangle workingAssets
 low c = filling-low (c .before .loop .inv .1) (omega arith)
 

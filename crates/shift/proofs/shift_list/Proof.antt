@@ -5,10 +5,10 @@ use borrow.Author.Needs.{needs}
 use native.Mathlib.Omega.{arith}
 use lib.Dec.{lit<}
 use lib.ListN.{length}
-use Rattle.steps.specs.Inputs.{largestPool}
-use Rattle.steps.specs.Inputs.Laws.{range-uncorrelated, working-range}
+use Rattle.steps.specs.Inputs.{reportPool}
+use Rattle.steps.specs.Inputs.Laws.{range-uncorrelated, report-range, working-range}
 use Rattle.grounds.specs.Grounds.{shiftGrounds, fourLengths, EntriesAccepted}
-use Rattle.grounds.specs.Grounds.Laws.{entries-accepted}
+use Rattle.grounds.specs.Grounds.Laws.{entries-accepted, report-accepted}
 use Rattle.steps.specs.CorrelatedBinomial.{keptDefaults}
 use Rattle.working.specs.Slices.Laws.{entries-untouched}
 use Rattle.store.specs.Stores.{store, lengths}
@@ -24,19 +24,24 @@ goes-on : (c : tie.Else1) → c .before .shift-refusal .result ≡ 0
 goes-on c = omega arith
 
 accepted : (c : tie.Else1) → let args = c .before .before .before .before .args in
-    EntriesAccepted largestPool (args .pool .assets) (args .pool .probability) (args .pool .correlation)
+    EntriesAccepted reportPool (args .pool .assets) (args .pool .probability) (args .pool .correlation)
     (lengths (store (args .low-significands .now) (args .high-significands .now) (args .low-exponents .now) (args .high-exponents .now))) (length (args .shifts .now))
-unfolding lengths store shiftGrounds fourLengths largestPool
+unfolding lengths store shiftGrounds fourLengths reportPool
 accepted c = entries-accepted 10 _ _ _ _ _ _ (lit< tt) (c .before .shift-refusal .ensures) (goes-on c)
 
 refused : tie.Need-returns
-unfolding shiftRefusal lengths store fourLengths largestPool
+unfolding shiftRefusal lengths store fourLengths reportPool
 refused c = record {
   refusal-is = c .before .shift-refusal .ensures;
   leaves = store-untouched (c .before .shift-refusal .result) (λ none. omega arith) refl;
   shifts-are = entries-untouched _ _ _ (c .before .shift-refusal .result) (λ none. omega arith);
   holds-shifts = λ none. absurd (omega arith);
 }
+
+fill-both-requires : tie.Need-fill-both-requires
+fill-both-requires c κs =
+    let given = accepted (c .before .before .before .before) .fill in
+    record { pool = report-accepted (given .pool); store = given .store }
 
 -- The place where the call goes on, seen from where the store is filled.
 abbrev else1 : tie.After-fill-both → tie.Else1
@@ -45,24 +50,24 @@ else1 c = c .before .before .before .before .before
 last-row-requires : tie.Need-last-row-requires
 last-row-requires c κs =
     let filled = c .before .before .before .before .before .before .before in
-    working-range (range-uncorrelated (accepted (else1 filled) .fill .pool .range))
+    working-range (range-uncorrelated (report-range (accepted (else1 filled) .fill .pool .range)))
 
 print-shifts-requires : tie.Need-print-shifts-requires
 print-shifts-requires c κs =
     let filled = c .before .before .before .before .before .before .before .before .before in
     let given = accepted (else1 filled) in
-    let range = given .fill .pool .range in
+    let range = report-range (given .fill .pool .range) in
     (column-is-ready range (filled .fill-both .ensures .low-row), (column-is-ready (range-uncorrelated range) (c .before .last-row .ensures), given .entries))
 
 listed : tie.Need-returns-2
-unfolding shiftRefusal lengths store fourLengths largestPool keptDefaults
+unfolding shiftRefusal lengths store fourLengths reportPool keptDefaults
 listed c =
     let filled = c .before .before .before .before .before .before .before .before .before .before .before in
     let pool = accepted (else1 filled) .fill .pool in
     let list = c .before .print-shifts .ensures .shifts-are _ _ (filled .fill-both .ensures .low-row) (c .before .before .before .last-row .ensures) in
     record {
       refusal-is = sym (goes-on (else1 filled)) ∙ else1 filled .before .shift-refusal .ensures;
-      leaves = store-filled (pool .range) (filled .fill-both .ensures .store-is);
+      leaves = store-filled (report-range (pool .range)) (filled .fill-both .ensures .store-is);
       shifts-are = list;
       holds-shifts = λ _. listed-holds (pool .range) (pool .not-empty) _ list;
     }
@@ -73,7 +78,7 @@ shift-list-spec =
     (tie.spec
     (λ c κs. search needs)
     refused
-    (λ c κs. accepted (c .before .before .before .before) .fill)
+    fill-both-requires
     last-row-requires
     print-shifts-requires
     (λ c. search needs) (λ c. search needs) (λ c. search needs) (λ c. search needs) (λ c. search needs)

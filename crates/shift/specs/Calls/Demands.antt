@@ -14,11 +14,11 @@ use Rattle.steps.specs.Chances.{keptTail}
 use Rattle.steps.specs.Column.{unitsOfCertainty, exactUnits, tenths, printedTail}
 use Rattle.steps.specs.Column.Laws.{within-weaken}
 use Rattle.steps.specs.Shifts.{tailShift}
-use Rattle.steps.specs.Inputs.{largestPool, distanceFor, shiftTenths}
+use Rattle.steps.specs.Inputs.{reportPool, finePool, distanceFor, shiftTenths}
 use Rattle.steps.specs.Promises.{HoldsShifts}
 use Rattle.store.specs.declared.Pool.{Pool}
 use Rattle.store.specs.Stores.{Store, lengths}
-use Rattle.pool.specs.Demands.{oneAndThreeTenths, Demand3Shifts, ShiftDemands}
+use Rattle.pool.specs.Demands.{partsFor, oneAndThreeTenths, Demand3Shifts, ShiftDemands}
 use Rattle.pool.specs.Demands.Theorems.{slices, entries-meet, printed-meet}
 use Rattle.shift.specs.Calls.{shiftRefusal, ListsShifts}
 
@@ -40,7 +40,7 @@ list-meets {r} low base most holds = record {
 
 pub shift-meets : {pool : Pool} {before after : Store} {shifts shifts′ : List ℤ} {refusal : ℕ} → ListsShifts pool before after shifts shifts′ refusal
     → ShiftDemands pool (slices before) (slices after) shifts shifts′ refusal
-unfolding shiftRefusal lengths largestPool distanceFor tenths shiftTenths oneAndThreeTenths defaults
+unfolding shiftRefusal lengths reportPool finePool distanceFor partsFor tenths shiftTenths oneAndThreeTenths defaults
 shift-meets lists = record {
   leaves = entries-meet (lists .leaves) _ _ (lists .refusal-is) (lists .shifts-are);
   list = λ none. list-meets _ _ (record { cross = lit≤ tt }) (lists .holds-shifts none);

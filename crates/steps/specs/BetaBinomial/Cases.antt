@@ -14,7 +14,8 @@ use Rattle.kept.specs.declared.Side.{Side}
 use Rattle.kept.specs.declared.Side.the-variants.{Low}
 use Rattle.kept.specs.Rounding.{scaled, nought, unity, increment, carry, round, roundedProduct, roundedSum, roundedQuotient, ofInteger, ofRatio}
 use Rattle.kept.specs.Whole.{wholeOf}
-use Rattle.steps.specs.Counts.{keptCount}
+use Rattle.steps.specs.Inputs.{upTo}
+use Rattle.steps.specs.Counts.{exactAssets, keptCount}
 use Rattle.steps.specs.Chances.{keptTotal, keptChance, keptChances, keptTail, keptTerm, keptLoss}
 use Rattle.steps.specs.Column.{unitsOfCertainty, exactUnits, half, inUnits, printedTail, printedRow}
 use Rattle.steps.specs.Cases.{Digits}
@@ -43,5 +44,5 @@ pub cases :
     × (betaRow 1 ≡ 13521)
     × (betaRow 2 ≡ 5379)
     × (betaRow 3 ≡ 1907)
-unfolding scaled nought unity increment carry round roundedProduct roundedSum roundedQuotient ofInteger ofRatio size choose raise integer plus times divided whole complement lossAbove lossUnits quotientNumerator quotientDenominator keptProduct keptQuotient keptEntry keptBetaDefaults keptTotal keptCount keptChance keptChances keptTail keptTerm keptLoss unitsOfCertainty exactUnits half wholeOf inUnits printedTail printedRow
+unfolding scaled nought unity increment carry round roundedProduct roundedSum roundedQuotient ofInteger ofRatio size choose raise integer plus times divided whole complement lossAbove lossUnits quotientNumerator quotientDenominator keptProduct keptQuotient keptEntry keptBetaDefaults keptTotal upTo exactAssets keptCount keptChance keptChances keptTail keptTerm keptLoss unitsOfCertainty exactUnits half wholeOf inUnits printedTail printedRow
 cases = ((refl, refl), (refl, refl), (refl, refl), (refl, refl), (refl, refl), (refl, refl), (refl, refl), refl, refl, refl, refl)

@@ -1,4 +1,4 @@
--- Demands 2 and 3 of the steps by the beta-binomial model, for every pool of up to 64 assets, every default probability p from 0 to 10,000 and every correlation ρ
+-- Demands 2 and 3 of the steps by the beta-binomial model, for every pool of up to 100 assets, every default probability p from 0 to 10,000 and every correlation ρ
 -- below 10,000, every recovery R and every tranche with B ≤ 10,000 whose width (B − A) × n is above zero. The exact value of P(j,n) is the closed form. The range of
 -- the exponents is taken from the products of quotients, whose denominators are far smaller than those of the closed form.
 -- Assumes nothing.
@@ -18,12 +18,13 @@ use Rattle.kept.specs.declared.Side.the-variants.{Low, High}
 use Rattle.kept.specs.Accuracy.{precision, BudgetFor}
 use Rattle.kept.specs.Accuracy.Laws.{budget-for-weaken}
 use Rattle.steps.specs.Budgets.{chanceBudget, tailBudget, lossBudget, WithinBudget, WithinPlaces}
-use Rattle.steps.specs.Counts.{countBudget}
-use Rattle.steps.specs.Column.{unitsOfCertainty, half, printedTail, printedRow, tenths, PrintsTails, PrintsColumn}
+use Rattle.steps.specs.Counts.Laws.{count-budget-most}
+use Rattle.steps.specs.Column.{half, printedTail, printedRow, tenths, PrintsTails, PrintsColumn}
 use Rattle.steps.specs.Enclosure.{Enclosed}
 use Rattle.steps.specs.Enclosure.Laws.{bound-enclosed}
 use Rattle.steps.specs.Exponents.{Ranged}
-use Rattle.steps.specs.Inputs.{largestPool, distanceFor, tenthsFor, InRange}
+use Rattle.steps.specs.Inputs.{largestPool, finePool, distanceFor, tenthsFor, tailTenths, InRange}
+use Rattle.steps.specs.Inputs.Laws.{up-to}
 use Rattle.steps.specs.declared.Tranche.{Tranche}
 use Rattle.steps.specs.Loss.{LossAnswer}
 use Rattle.steps.specs.Tranches.{TranchesInRange, trancheLosses}
@@ -39,12 +40,12 @@ module _ {n p ρ : ℕ} (range : InRange largestPool n p ρ) (ρ<1 : ρ < whole)
 
   -- The products of quotients are within their budget, and their denominators are few places long.
   pub products-within : WithinBudget (quotientsBudget n) (quotientDefaults ρ<1 n p) (λ j. quotientProduct ρ<1 p j n) (λ side. keptEntry side n p ρ)
-  unfolding quotientDefaults quotientProduct keptEntry chance share times integer lossBudget chanceBudget countBudget quotientsBudget precision
+  unfolding quotientDefaults quotientProduct keptEntry chance share times integer lossBudget chanceBudget quotientsBudget precision
   products-within = record {
     complete = products-complete p (range .probability) ρ<1 n;
     entries = λ side j l. quotients-bound side p ρ<1 j n;
     counted = λ j l. omega arith;
-    parts = omega (arith, few);
+    parts = omega (arith, few, count-budget-most n);
     assets = few;
   }
 
@@ -72,10 +73,11 @@ module _ {n p ρ : ℕ} (range : InRange largestPool n p ρ) (ρ<1 : ρ < whole)
 
   -- The budget of a loss, the largest, is one for the distance.
   pub beta-budget : BudgetFor (distanceFor n) (lossBudget n (chanceBudget n (quotientsBudget n)))
-  unfolding distanceFor largestPool lossBudget chanceBudget countBudget quotientsBudget precision
+  unfolding distanceFor lossBudget chanceBudget quotientsBudget precision
   beta-budget =
-      let most : BudgetFor (distanceFor n) 200 = record { positive = lit< tt; small = lit≤ tt } in
-      budget-for-weaken (omega (arith, range .assets)) most
+      let most : BudgetFor (distanceFor n) 500 =
+      up-to (λ g. BudgetFor g 500) finePool n (λ _. record { positive = lit< tt; small = lit≤ tt }) (λ _. record { positive = lit< tt; small = lit≤ tt }) in
+      budget-for-weaken (omega (arith, few, count-budget-most n)) most
 
   -- Both bounds of entry j, with P(j,n) by its closed form.
   pub beta-entries : {j : ℕ} → j ≤ n → Enclosed (distanceFor n) (keptEntry Low n p ρ j) (keptEntry High n p ρ j) (betaProbability p ρ j n)
@@ -93,12 +95,12 @@ module _ {n p ρ : ℕ} (range : InRange largestPool n p ρ) (ρ<1 : ρ < whole)
   unfolding betaDefaults defaultsBy keptBetaDefaults
   beta-answers = losses-hold beta-within beta-budget
 
-  -- The printed tails are at most half a unit above the exact ones and less than 0.8 units below them.
-  pub beta-printed : PrintsTails half (tenths 8) (betaDefaults n p ρ) (printedTail n (keptBetaDefaults Low n p ρ))
-  unfolding betaDefaults defaultsBy keptBetaDefaults tailBudget chanceBudget countBudget quotientsBudget tenths precision unitsOfCertainty largestPool
-  beta-printed = row-tails beta-within (omega (arith, range .assets))
+  -- The printed tails are at most half a unit above the exact ones and less than 0.8 units below them; above 64 assets less than 1.3.
+  pub beta-printed : PrintsTails half (tenths (tailTenths n)) (betaDefaults n p ρ) (printedTail n (keptBetaDefaults Low n p ρ))
+  unfolding betaDefaults defaultsBy keptBetaDefaults tailBudget chanceBudget quotientsBudget
+  beta-printed = row-tails beta-within (λ _. omega (arith, few, count-budget-most n)) (λ _. omega (arith, few, count-budget-most n))
 
-  -- The printed rows add to 100,000, none is below zero, and each is less than 1.5 units from the exact chance.
+  -- The printed rows add to 100,000, none is below zero, and each is less than 1.5 units from the exact chance; above 64 assets less than 2.
   pub beta-column : PrintsColumn (tenths (tenthsFor n)) (betaDefaults n p ρ) (printedTail n (keptBetaDefaults Low n p ρ)) (printedRow n (keptBetaDefaults Low n p ρ))
   unfolding betaDefaults defaultsBy
   beta-column = tails-column (keptBetaDefaults Low n p ρ) beta-printed

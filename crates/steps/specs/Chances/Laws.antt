@@ -25,10 +25,10 @@ use Rattle.steps.specs.Counts.Laws.{count-bound}
 use Rattle.steps.specs.Chances.{keptTotal, keptChance, keptTail, keptTerm, keptLoss}
 
 -- Step 4, for any exact value v of entry j.
-pub chance-bound : {side : Side} {b : ℕ} {entry : Kept} {v : Fraction} (n j : ℕ)
+pub chance-bound : {side : Side} {b : ℕ} {entry : Kept} {v : Fraction} (n j : ℕ) → j ≤ n
     → Bound side b entry v → Bound side (chanceBudget n b) (keptChance side n j entry) (times (integer (choose n j)) v)
 unfolding chanceBudget keptChance
-chance-bound {side} n j m = bound-weaken (omega arith) (bound-product (count-bound side n j) m)
+chance-bound {side} n j l m = bound-weaken (omega arith) (bound-product (count-bound side n j l) m)
 
 -- Loss units below 2^32 are kept as they are.
 units-exact : (side : Side) (n R A B X : ℕ) → (B - A) * n < 2 ^ 32

@@ -1,4 +1,4 @@
--- Demands 2 and 3 of the steps, for every pool of up to 64 assets, every default probability p and correlation ρ from 0 to 10,000, every recovery R and every
+-- Demands 2 and 3 of the steps, for every pool of up to 100 assets, every default probability p and correlation ρ from 0 to 10,000, every recovery R and every
 -- tranche with B ≤ 10,000 whose width (B − A) × n is above zero, which `tranche-wide` gives for A < B and a pool that is not empty. What the steps make is
 -- within the budgets of the model's row, so that the promises of a row in general hold of it, at every distance that these budgets give.
 -- Assumes nothing.
@@ -23,13 +23,14 @@ use Rattle.kept.specs.declared.Side.the-variants.{Low, High}
 use Rattle.kept.specs.Accuracy.{precision, BudgetFor}
 use Rattle.kept.specs.Accuracy.Laws.{budget-for-weaken}
 use Rattle.steps.specs.Budgets.{chanceBudget, tailBudget, lossBudget, WithinBudget, WithinPlaces}
-use Rattle.steps.specs.Counts.{countBudget}
+use Rattle.steps.specs.Counts.{exactAssets, countBudget}
+use Rattle.steps.specs.Counts.Laws.{count-budget-mono, count-budget-most}
 use Rattle.steps.specs.CorrelatedBinomial.Budgets.{rowBudget, defaultsBudget, poolBudget, BudgetsFor, FewAssets}
 use Rattle.steps.specs.CorrelatedBinomial.Rows.{keptRow}
 use Rattle.steps.specs.CorrelatedBinomial.Rows.Laws.{entry-bound}
 use Rattle.steps.specs.Enclosure.{Enclosed}
 use Rattle.steps.specs.Enclosure.Laws.{bound-enclosed}
-use Rattle.steps.specs.Column.{unitsOfCertainty, half, printedTail, printedRow, tenths, PrintsTails, PrintsColumn}
+use Rattle.steps.specs.Column.{half, printedTail, printedRow, tenths, PrintsTails, PrintsColumn}
 use Rattle.steps.specs.Shifts.{tailShift}
 use Rattle.steps.specs.Exponents.{Ranged}
 use Rattle.steps.specs.CorrelatedBinomial.Exponents.Laws.{rows-ranged}
@@ -38,8 +39,8 @@ use Rattle.steps.specs.Loss.{LossAnswer}
 use Rattle.steps.specs.Tranches.{TranchesInRange, trancheLosses}
 use Rattle.steps.specs.Promises.{HoldsSteps, HoldsShifts, HoldsLosses}
 use Rattle.steps.specs.Promises.Laws.{steps-ranged, row-tails, tails-column, row-enclosed, losses-hold, shifts-hold}
-use Rattle.steps.specs.Inputs.{largestPool, distanceFor, screenPool, screenDistance, tenthsFor, shiftTenths, workingAssets, InRange}
-use Rattle.steps.specs.Inputs.Laws.{range-uncorrelated, pool-works}
+use Rattle.steps.specs.Inputs.{upTo, largestPool, reportPool, finePool, distanceFor, screenPool, screenDistance, tenthsFor, tailTenths, shiftTenths, workingAssets, InRange}
+use Rattle.steps.specs.Inputs.Laws.{up-to, range-uncorrelated, pool-works, report-range}
 use Rattle.steps.specs.CorrelatedBinomial.{keptDefaults}
 use Rattle.steps.specs.CorrelatedBinomial.Exponents.{PoolNumber, of-rows, of-steps}
 
@@ -48,12 +49,12 @@ use Rattle.steps.specs.CorrelatedBinomial.Exponents.{PoolNumber, of-rows
 module _ {most n p ρ : ℕ} (range : InRange most n p ρ) (few : FewAssets n) where
   -- The rows of the model are within their budgets, and their denominators are few places long.
   pool-within : WithinBudget (rowBudget n) (defaults n p ρ) (λ j. probability p ρ j n) (λ side. keptRow side p ρ n)
-  unfolding defaults chance share probability times integer over lossBudget chanceBudget countBudget rowBudget triangle
+  unfolding defaults chance share probability times integer over lossBudget chanceBudget rowBudget triangle
   pool-within = record {
     complete = defaults-complete p ρ (range .probability) (range .correlation) n;
     entries = λ side j l. entry-bound side p ρ (range .probability) (range .correlation) l;
     counted = λ j l. omega arith;
-    parts = omega (arith, few .parts);
+    parts = omega (arith, few .parts, count-budget-most n);
     assets = few .assets;
   }
 
@@ -78,17 +79,23 @@ unfolding rowBudget precision workingAssets triangle
 few-assets few = let most = triangle-mono few in record { parts = omega arith; places = omega arith; assets = omega arith }
 
 -- Where the budget of so many assets is one for a distance, that of every smaller pool is too.
-budgets-for : {most g n : ℕ} → BudgetFor g (poolBudget most) → n ≤ most → BudgetsFor (λ _. g) n
-unfolding poolBudget defaultsBudget lossBudget chanceBudget countBudget rowBudget
-budgets-for most-fits few = record { budget = λ l. budget-for-weaken (omega (arith, triangle-mono (le-trans l few))) most-fits }
+budget-for : {most g k : ℕ} → BudgetFor g (poolBudget most) → k ≤ most → BudgetFor g (poolBudget k)
+unfolding poolBudget defaultsBudget lossBudget chanceBudget rowBudget
+budget-for most-fits few = budget-for-weaken (omega (arith, triangle-mono few, count-budget-mono few)) most-fits
+
+-- The budgets at the limits, each for its distance.
+limits : BudgetFor (distanceFor finePool) (poolBudget finePool) × BudgetFor (distanceFor largestPool) (poolBudget largestPool)
+    × BudgetFor (screenDistance screenPool) (poolBudget screenPool)
+unfolding upTo finePool largestPool screenPool distanceFor screenDistance poolBudget defaultsBudget lossBudget chanceBudget exactAssets countBudget rowBudget precision triangle
+limits = (record { positive = lit< tt; small = lit≤ tt }, record { positive = lit< tt; small = lit≤ tt }, record { positive = lit< tt; small = lit≤ tt })
 
 pub pool-budgets : {n : ℕ} → n ≤ largestPool → BudgetsFor distanceFor n
-unfolding distanceFor largestPool poolBudget defaultsBudget lossBudget chanceBudget countBudget rowBudget precision triangle
-pool-budgets = budgets-for (record { positive = lit< tt; small = lit≤ tt })
+unfolding upTo finePool largestPool distanceFor
+pool-budgets few = record { budget = λ {k} l. up-to (λ g. BudgetFor g (poolBudget k)) finePool k (budget-for (limits .0)) (λ _. budget-for (limits .1) (le-trans l few)) }
 
 pub screen-budgets : {n : ℕ} → n ≤ screenPool → BudgetsFor screenDistance n
-unfolding screenDistance screenPool poolBudget defaultsBudget lossBudget chanceBudget countBudget rowBudget precision triangle
-screen-budgets = budgets-for (record { positive = lit< tt; small = lit≤ tt })
+unfolding screenDistance
+screen-budgets few = record { budget = λ l. budget-for (limits .2) (le-trans l few) }
 
 module _ {n p ρ : ℕ} where
   -- Every number that the steps make has an exponent from −80,000 to 100.
@@ -106,7 +113,7 @@ module _ {n p ρ : ℕ} where
     module _ {g : ℕ → ℕ} (apart : BudgetsFor g n) where
       -- Both bounds of entry j of row k, with P(j,k) by its closed form.
       pub entries : {j k : ℕ} → j ≤ k → k ≤ n → Enclosed (g k) (keptRow Low p ρ k j) (keptRow High p ρ k j) (probability p ρ j k)
-      unfolding poolBudget defaultsBudget lossBudget chanceBudget countBudget
+      unfolding poolBudget defaultsBudget lossBudget chanceBudget
       entries l m =
           bound-enclosed (budget-for-weaken (omega arith) (apart .budget m)) (λ side. entry-bound side p ρ (range .probability) (range .correlation) l)
 
@@ -124,23 +131,31 @@ module _ {n p ρ : ℕ} where
       unfolding defaults keptDefaults poolBudget defaultsBudget
       answers = losses-hold within (apart .budget (le-refl n))
 
-    -- The printed tails are at most half a unit above the exact ones and less than 0.8 units below them.
-    pub printed : PrintsTails half (tenths 8) (defaults n p ρ) (printedTail n (keptDefaults Low n p ρ))
-    unfolding defaults keptDefaults tailBudget chanceBudget countBudget rowBudget tenths precision unitsOfCertainty largestPool triangle
-    printed = row-tails within (omega (arith, triangle-mono (range .assets)))
+    -- The printed tails are at most half a unit above the exact ones and less than 0.8 units below them; above 64 assets less than 1.3.
+    pub printed : PrintsTails half (tenths (tailTenths n)) (defaults n p ρ) (printedTail n (keptDefaults Low n p ρ))
+    unfolding defaults keptDefaults tailBudget chanceBudget rowBudget finePool largestPool triangle
+    printed =
+        row-tails within (λ few. omega (arith, triangle-mono few, count-budget-most n))
+        (λ _. omega (arith, triangle-mono (range .assets), count-budget-most n))
 
-    -- The printed rows add to 100,000, none is below zero, and each is less than 1.5 units from the exact chance.
+    -- The printed rows add to 100,000, none is below zero, and each is less than 1.5 units from the exact chance; above 64 assets less than 2.
     pub column : PrintsColumn (tenths (tenthsFor n)) (defaults n p ρ) (printedTail n (keptDefaults Low n p ρ)) (printedRow n (keptDefaults Low n p ρ))
     unfolding defaults
     column = tails-column (keptDefaults Low n p ρ) printed
 
+-- A printed tail of a report is less than 0.8 units below the exact one.
+report-tenths : {n p ρ : ℕ} → InRange reportPool n p ρ → tailTenths n ≤ 8
+unfolding tailTenths finePool reportPool
+report-tenths {n} range = up-to (λ t. t ≤ 8) finePool n (λ _. lit≤ tt) (λ more. absurd (omega (arith, range .assets)))
+
 -- The shifts of the printed tails against those of the same pool without correlation. The exact tails at 1 to n add to n × p at either correlation.
-pub shifts : {n p ρ : ℕ} → InRange largestPool n p ρ → 0 < n → {shifts : List ℤ}
+pub shifts : {n p ρ : ℕ} → InRange reportPool n p ρ → 0 < n → {shifts : List ℤ}
     → ((k : ℕ) → k ≤ n → getD shifts k (pos 0) ≡ tailShift n (keptDefaults Low n p ρ) (keptDefaults Low n p 0) k)
     → HoldsShifts (tenths shiftTenths) (defaults n p ρ) (defaults n p 0) (keptDefaults Low n p ρ) (keptDefaults Low n p 0) shifts
 unfolding defaults plus half tenths shiftTenths
 shifts {n} {p} {ρ} range some stand =
-    let base = range-uncorrelated range in
+    let pool = report-range range in
+    let base = range-uncorrelated pool in
     let total = defaults-tails-total p ρ (range .probability) (range .correlation) n in
     let base-total = defaults-tails-total p 0 (base .probability) (base .correlation) n in
-    shifts-hold (printed range) (printed base) refl (same-trans total (same-sym base-total)) some (record { cross = lit≤ tt }) stand
+    shifts-hold (printed pool) (printed base) refl (same-trans total (same-sym base-total)) some (record { cross = omega (arith, report-tenths range) }) stand

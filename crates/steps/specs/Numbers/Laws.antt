@@ -27,7 +27,7 @@ pub chances-ranged : {side : Side} {n b m : ℕ} {entry : ℕ → Kept} (v : ℕ
 unfolding integer times
 chances-ranged v bound at-most den small (of-counts number) = counts-ranged (small .2) number
 chances-ranged {n} {m} v bound at-most den small (is-chance j l) =
-    bound-ranged (chance-bound n j (bound j l)) m n (omega (arith, den j l)) (omega (arith, mul-le-mul (choose-at-most n j) (at-most j l))) small
+    bound-ranged (chance-bound n j l (bound j l)) m n (omega (arith, den j l)) (omega (arith, mul-le-mul (choose-at-most n j) (at-most j l))) small
 
 -- ---- steps 5 and 6, for a row of chances in general
 

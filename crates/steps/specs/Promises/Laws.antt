@@ -1,11 +1,10 @@
 -- The promises of a row of chances in general.
 -- Assumes nothing.
-use Prim.Native.Nat.{ℕ, suc, _+_, _-_, _*_, _^_, _≤_, _<_}
+use Prim.Native.Nat.{ℕ, suc, _-_, _*_, _^_, _≤_, _<_}
 use mathlib.Core.Path.{_≡_, sym, subst, _∙_}
 use mathlib.Core.List.{List}
 use native.Mathlib.Omega.{arith}
 use native.Mathlib.Nat.{le-refl, mul-le-mul-right}
-use lib.Dec.{lit≤}
 use lib.ListN.{getD}
 use lib.IntN.{ℤ, pos, +ℤ-invr}
 use Rattle.model.specs.Number.{choose}
@@ -24,7 +23,8 @@ use Rattle.steps.specs.Chances.{keptChances, keptLoss}
 use Rattle.steps.specs.Chances.Laws.{chance-bound, chance-enclosed, tail-enclosed, loss-enclosed}
 use Rattle.steps.specs.Column.{unitsOfCertainty, half, printedTail, printedRow, tenths, PrintsTails, PrintsColumn}
 use Rattle.steps.specs.Column.Laws.{within-weaken, printed-tails, printed-column, column-weaken}
-use Rattle.steps.specs.Inputs.{tenthsFor}
+use Rattle.steps.specs.Inputs.{finePool, tenthsFor, tailTenths}
+use Rattle.steps.specs.Inputs.Laws.{up-to, tail-tenths-within}
 use Rattle.steps.specs.Shifts.{tailShift}
 use Rattle.steps.specs.Shifts.Laws.{tails-near, tails-between, tails-total-near}
 use Rattle.steps.specs.Exponents.{Ranged}
@@ -45,7 +45,7 @@ module _ {b : ℕ} {r : Chances} {v : ℕ → Fraction} {entry : Side → ℕ �
   -- The chances that step 4 makes, against the exact ones.
   pub chances-bounded : Bounded (chanceBudget (r .assets) b) r (λ side. keptChances side (r .assets) (entry side))
   unfolding keptChances
-  chances-bounded = record { bound = λ side j l. bound-same (within .counted j l) (chance-bound (r .assets) j (within .entries side j l)) }
+  chances-bounded = record { bound = λ side j l. bound-same (within .counted j l) (chance-bound (r .assets) j l (within .entries side j l)) }
 
   -- Loss units are whole numbers below 2^32.
   narrow : (A B : ℕ) → B ≤ whole → (B - A) * r .assets < 2 ^ 32
@@ -68,11 +68,15 @@ module _ {b : ℕ} {r : Chances} {v : ℕ → Fraction} {entry : Side → ℕ �
     steps-ranged side (of-losses R A B B≤1 number) =
         losses-ranged chances-bounded (within .complete) side m (placed .denominator) (within .parts, placed .places) R A B (narrow A B B≤1) number
 
-  -- Printed tails of the low side, less than `below` under the exact ones.
-  pub row-tails : {below : Fraction}
-      → (precision + 2 * (unitsOfCertainty * tailBudget (r .assets) (chanceBudget (r .assets) b))) * below .den ≤ 2 * (below .num * precision)
-      → PrintsTails half below r (printedTail (r .assets) (kept Low))
-  row-tails slack = printed-tails chances-bounded (within .complete) slack
+  -- Printed tails of the low side, less than the tenths of a tail below the exact ones: 0.3 units are 6,442 parts of certainty, 0.8 units 17,179.
+  pub row-tails : let tail-parts = tailBudget (r .assets) (chanceBudget (r .assets) b) in
+      (r .assets ≤ finePool → tail-parts ≤ 6442) → (finePool < r .assets → tail-parts ≤ 17179)
+      → PrintsTails half (tenths (tailTenths (r .assets))) r (printedTail (r .assets) (kept Low))
+  unfolding tailTenths tenths precision unitsOfCertainty
+  row-tails few more =
+      up-to (λ t. PrintsTails half (tenths t) r (printedTail (r .assets) (kept Low))) finePool (r .assets)
+      (λ l. printed-tails chances-bounded (within .complete) (omega (arith, few l)))
+      (λ l. printed-tails chances-bounded (within .complete) (omega (arith, more l)))
 
   -- Where two numbers at the budget of a loss are at most one part in g apart, all bounds are.
   module _ {g : ℕ} (fine : BudgetFor g (lossBudget (r .assets) (chanceBudget (r .assets) b))) where
@@ -102,11 +106,11 @@ module _ {b : ℕ} {r : Chances} {v : ℕ → Fraction} {entry : Side → ℕ �
       past = λ i l. rw are (losses-past (r .assets) kept ts i l);
     }
 
--- Rows printed from tails that are at most half a unit above the exact ones and less than 0.8 units below them.
-pub tails-column : {r : Chances} (low : ℕ → Kept) → PrintsTails half (tenths 8) r (printedTail (r .assets) low)
+-- Rows printed from tails that are at most half a unit above the exact ones and less than the tenths of a tail below them.
+pub tails-column : {r : Chances} (low : ℕ → Kept) → PrintsTails half (tenths (tailTenths (r .assets))) r (printedTail (r .assets) low)
     → PrintsColumn (tenths (tenthsFor (r .assets))) r (printedTail (r .assets) low) (printedRow (r .assets) low)
-unfolding plus half tenths tenthsFor
-tails-column low tails = column-weaken (record { cross = lit≤ tt }) (printed-column low tails)
+unfolding plus half tenths
+tails-column {r} low tails = column-weaken (record { cross = omega (arith, tail-tenths-within (r .assets)) }) (printed-column low tails)
 
 -- The same entries, against the same values written over other denominators.
 pub within-same : {b : ℕ} {r s : Chances} (v : ℕ → Fraction) {w : ℕ → Fraction} {entry : Side → ℕ → Kept} → SameChances r s

@@ -9,7 +9,7 @@ abbrev Inv-loop : tie.InvT-loop
 Inv-loop places₀ i₀ places i = Unit {0}
 
 abbrev μ-loop : tie.MeasureT-loop
-μ-loop places₀ i₀ places i = 2150 - i
+μ-loop places₀ i₀ places i = 5156 - i
 
 pub numbered-spec : {M : Type 1} → statement M
 numbered-spec =
