@@ -33,7 +33,8 @@ def main():
         digits(f"λ side. keptDefaults side 3 1000 3000 {j}", lambda side: made[side][1][j])
     for k in range(1, 4):
         digits(f"tailOf 3 1000 3000 {k}", lambda side: tails(side, made[side][1])[k])
-    digits("threeLoss 1000 3000 (lit< tt)", lambda side: loss(side, made[side][1], 4000, 1000, 3000))
+    for lower, upper in [(1000, 3000), (0, 7000)]:
+        digits(f"threeLoss {lower} {upper} (lit< tt)", lambda side: loss(side, made[side][1], 4000, lower, upper))
     for j in range(5):
         digits(f"λ side. summedCount side 4 {j}", lambda side: summed_counts(side, 4)[j])
     rows, printed = printed_rows(made[0][1]), printed_tails(made[0][1])
@@ -47,6 +48,11 @@ def main():
     for n, p, rho, k in [(2, 5000, 625, 2), (2, 50, 0, 2), (3, 500, 500, 3)]:
         line(f"(printedOf {n} {p} {rho} {k} ≡ {printed_tails(steps(0, n, p, rho)[1])[k]})")
     line(f"(rowOf 3 500 500 2 ≡ {printed_rows(steps(0, 3, 500, 500)[1])[2]})")
+    made = [steps(side, 1, 0, 3000)[0][1] for side in (0, 1)]
+    for side, name in enumerate(["Low", "High"]):
+        significand, exponent = made[side][1]
+        line(f"(keptRow {name} 0 3000 1 1 ≡ record {{ significand = {significand}; exponent = pos {exponent} }})")
+    digits("λ side. keptRow side 0 3000 1 0", lambda side: made[side][0])
     made = [beta_steps(side, 3, 1000, 3000) for side in (0, 1)]
     for j in range(4):
         digits(f"λ side. keptEntry side 3 1000 3000 {j}", lambda side: made[side][0][-1][j])

@@ -107,8 +107,13 @@ def answer(data):
     return [f"refused {number}"] if number > 0 else table(*pool)
 
 
-if sys.argv[1:] == ["input"]:
-    sys.stdout.buffer.write(INPUT)
-else:
-    for number, data in enumerate(INPUTS, 1):
-        print(f"case {number}", *answer(data), sep="\n")
+def main():
+    if sys.argv[1:] == ["input"]:
+        sys.stdout.buffer.write(INPUT)
+    else:
+        for number, data in enumerate(INPUTS, 1):
+            print(f"case {number}", *answer(data), sep="\n")
+
+
+if __name__ == "__main__":
+    main()

@@ -1,5 +1,5 @@
-"""The lines that crates/trial_pool prints of a call, by tools/pools.py. Every bound, every column, every shift list and every loss
-is held to the exact model.
+"""The lines that crates/trial_pool prints of a call, and the inputs of crates/trial_inputs, by tools/pools.py. Every bound, every
+column, every shift list and every loss is held to the exact model.
 
 A library is "" (the one of the pool), "screen" or "beta"; a tranche is a recovery and two attachments."""
 from fractions import Fraction

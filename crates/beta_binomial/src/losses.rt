@@ -14,7 +14,7 @@ ghost use Rattle.beta_binomial.specs.Calls.{BetaReplies};
 pub fn tranche_losses(pool: Pool, tranches: [Tranche; TRANCHES], count: u32) -> Answer
     ensures { λ r. ⌜ BetaReplies pool tranches count (r .refusal) (lossesIn (r .losses)) ⌝ }
 {
-    let refusal = grounds::beta_loss_refusal(
+    let refusal = refusals::beta_loss_refusal(
         LARGEST_POOL,
         pool.assets,
         pool.probability,

@@ -10,7 +10,7 @@ ghost use Rattle.beta_binomial.specs.Calls.{BetaPrints};
 pub fn column(pool: Pool, units: &mut [u32]) -> u32
     ensures { λ r. ⌜ BetaPrints pool (now (units .entry)) (now (units .exit)) r ⌝ }
 {
-    let refusal = grounds::beta_column_refusal(
+    let refusal = refusals::beta_column_refusal(
         LARGEST_POOL,
         pool.assets,
         pool.probability,

@@ -11,8 +11,6 @@ use Rattle.kept.specs.declared.Side.the-variants.{Low}
 use Rattle.kept.specs.Rounding.{IsKept, value}
 use Rattle.steps.specs.Chances.{keptChances, keptTail}
 use Rattle.steps.specs.Column.{printedTail, printedRow}
-use Rattle.steps.specs.Exponents.{Ranged}
-use Rattle.steps.specs.Numbers.{TailNumber}
 use Rattle.steps.specs.Inputs.{workingAssets}
 use Rattle.working.specs.Working.{workingPlaces, Entries}
 use Rattle.working.specs.Slices.{entriesAfter}
@@ -23,15 +21,7 @@ pub mod Laws
 abbrev pub Tails : {A : Type 0} (n : ℕ) → List A → (ℕ → A) → Type 0
 Tails n row f = Entries (suc workingPlaces) (suc (suc n)) row f
 
--- What step 5 asks of chances: they and their tails have exponents in their range.
-pub record TailsReady (side : Side) (n : ℕ) (chances : List Kept) : Type 0 where
-  pub assets : n ≤ workingAssets
-  pub chance : ℕ → Kept
-  pub entries : Entries workingPlaces (suc n) chances chance
-  pub chance-ranged : (j : ℕ) → j ≤ n → Ranged (chance j)
-  pub ranged : {x : Kept} → TailNumber side n chance x → Ranged x
-
--- What it leaves: the tails.
+-- What step 5 leaves: the tails.
 pub record TailsMade (side : Side) (n : ℕ) (chances tails : List Kept) : Type 0 where
   pub tails-are : (c : ℕ → Kept) → Entries workingPlaces (suc n) chances c → Tails n tails (keptTail side n c)
 

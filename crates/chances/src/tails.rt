@@ -10,15 +10,17 @@ ghost use lib.ListN.{length};
 ghost use Rattle.model.specs.Fraction.{AtMost, integer};
 ghost use Rattle.kept.specs.Rounding.{IsKept, value};
 ghost use Rattle.steps.specs.Column.{inUnits};
+ghost use Rattle.steps.specs.Numbers.{TailNumber};
 ghost use Rattle.working.specs.Slices.{entriesAfter};
-ghost use Rattle.chances.specs.Tails.{TailsReady, TailsMade, Printable, TailsPrinted, Falling, differenceAt, ColumnReady, RowTailsPrinted, ColumnPrinted};
+ghost use Rattle.chances.specs.Chances.{RowReady};
+ghost use Rattle.chances.specs.Tails.{TailsMade, Printable, TailsPrinted, Falling, differenceAt, ColumnReady, RowTailsPrinted, ColumnPrinted};
 
 // The tails at 0 to n, and that past n.
 pub const TAILS: usize = PLACES + 1;
 
 // The tails of one side at 0 to n + 1. Starting from zero, the chances are added from n defaults down.
 pub fn tails(n: u32, chances: [Kept; PLACES], side: Side) -> [Kept; TAILS]
-    requires { ⌜ TailsReady side n chances ⌝ }
+    requires { ⌜ RowReady n chances (TailNumber side n) ⌝ }
     ensures { λ r. ⌜ TailsMade side n chances r ⌝ }
 {
     let zero = Kept::zero();
@@ -43,7 +45,7 @@ fn in_units(x: Kept) -> u32
 }
 
 // The printed tails at 0 to n + 1, from the tails of the low side. That at 0 is certainty.
-pub fn printed_tails(n: u32, tails: [Kept; TAILS]) -> [u32; TAILS]
+fn printed_tails(n: u32, tails: [Kept; TAILS]) -> [u32; TAILS]
     requires { ⌜ Printable n tails ⌝ }
     ensures { λ r. ⌜ TailsPrinted n tails r ⌝ }
 {

@@ -11,10 +11,9 @@ use Rattle.kept.specs.declared.Side.{Side}
 use Rattle.kept.specs.declared.Side.the-variants.{Low, High}
 use Rattle.kept.specs.Rounding.{IsKept, value, ofInteger}
 use Rattle.steps.specs.Chances.{keptChances, keptLoss}
-use Rattle.steps.specs.Exponents.{Ranged}
 use Rattle.steps.specs.Numbers.{LossNumber}
 use Rattle.steps.specs.Loss.{LossAnswer, untouched, faint, shown}
-use Rattle.steps.specs.Inputs.{workingAssets, TrancheInRange}
+use Rattle.steps.specs.Inputs.{TrancheInRange}
 use Rattle.steps.specs.declared.Tranche.{Tranche}
 use Rattle.steps.specs.Tranches.{tranchePlaces, trancheAt, TranchesInRange, trancheLoss, trancheLosses}
 use Rattle.working.specs.Working.{workingPlaces, Entries}
@@ -22,7 +21,7 @@ use Rattle.expected_losses.specs.declared.Loss.{Loss}
 use Rattle.expected_losses.specs.declared.Loss.the-variants.{Untouched, Faint, Shown}
 use Rattle.expected_losses.specs.declared.TrancheLoss.{TrancheLoss}
 use Rattle.expected_losses.specs.declared.Answer.{Answer}
-use Rattle.chances.specs.Chances.{StepsReady}
+use Rattle.chances.specs.Chances.{RowReady, StepsReady}
 pub mod Laws
 pub mod Ready
 
@@ -30,15 +29,9 @@ pub mod Ready
 pub record UnitsMade (n : ℕ) (t : Tranche) (r : List Kept) : Type 0 where
   pub units : (side : Side) → Entries workingPlaces (suc n) r (λ X. ofInteger side (lossUnits n (t .recovery) (t .lower) (t .upper) X))
 
--- What step 6 asks: some assets, and chances that have, as all that is made of them, exponents in their range.
-pub record LossReady (side : Side) (n : ℕ) (chances : List Kept) (t : Tranche) : Type 0 where
-  pub assets : n ≤ workingAssets
-  pub not-empty : 0 < n
-  pub tranche : TrancheInRange (t .recovery) (t .lower) (t .upper)
-  pub chance : ℕ → Kept
-  pub entries : Entries workingPlaces (suc n) chances chance
-  pub chance-ranged : (j : ℕ) → j ≤ n → Ranged (chance j)
-  pub ranged : {x : Kept} → LossNumber side n chance (t .recovery) (t .lower) (t .upper) x → Ranged x
+-- What step 6 asks of chances.
+abbrev pub LossReady : Side → ℕ → List Kept → Tranche → Type 0
+LossReady side n chances t = RowReady n chances (λ c. LossNumber side n c (t .recovery) (t .lower) (t .upper))
 
 -- What it leaves: the expected loss.
 pub record LossMade (side : Side) (n : ℕ) (chances : List Kept) (t : Tranche) (r : Kept) : Type 0 where
@@ -78,11 +71,13 @@ module _ (n : ℕ) (low high : List Kept) where
 
   -- What the loss of a tranche asks.
   pub record TrancheReady (t : Tranche) : Type 0 where
+    pub not-empty : 0 < n
+    pub tranche : TrancheInRange (t .recovery) (t .lower) (t .upper)
     pub low-ready : LossReady Low n low t
     pub high-ready : LossReady High n high t
     pub answerable : (wide : 0 < (t .upper - t .lower) * n)
-        → Answerable (keptLoss Low n (low-ready .chance) (t .recovery) (t .lower) (t .upper) wide)
-        (keptLoss High n (high-ready .chance) (t .recovery) (t .lower) (t .upper) wide)
+        → Answerable (keptLoss Low n (low-ready .entry) (t .recovery) (t .lower) (t .upper) wide)
+        (keptLoss High n (high-ready .entry) (t .recovery) (t .lower) (t .upper) wide)
 
   -- What it leaves: the answer that the two bounds of step 6 give.
   pub record TrancheAnswered (t : Tranche) (loss : LossAnswer) : Type 0 where

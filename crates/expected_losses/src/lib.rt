@@ -8,7 +8,7 @@ use steps::TRANCHES;
 use steps::Tranche;
 use working::PLACES;
 ghost use mathlib.Core.Path.{_≡_};
-ghost use Prim.Native.Nat.{_≤_};
+ghost use Prim.Native.Nat.{_≤_, _<_};
 ghost use lib.ListN.{take, replicate};
 ghost use Rattle.model.specs.Chances.{lossUnits};
 ghost use Rattle.kept.specs.Rounding.{IsKept};
@@ -78,7 +78,7 @@ fn expected_loss(
     tranche: Tranche,
     side: Side,
 ) -> Kept
-    requires { ⌜ LossReady side n chances tranche ⌝ ∗ ⌜ UnitsMade n tranche units ⌝ }
+    requires { ⌜ LossReady side n chances tranche ⌝ ∗ ⌜ UnitsMade n tranche units ⌝ ∗ ⌜ 0 < n ⌝ ∗ ⌜ TrancheInRange (tranche .recovery) (tranche .lower) (tranche .upper) ⌝ }
     ensures { λ r. ⌜ LossMade side n chances tranche r ⌝ }
 {
     let mut total = Kept::zero();

@@ -1,7 +1,7 @@
 -- The grounds in figures: each for every input, those that each call checks, in order, for each ground of the library inputs to which it alone applies, what
 -- a loss call answers by its tranches and their count, what the screen, a shift list and the program `column` answer around their ceilings, and what the beta-binomial answers around full correlation.
 -- Assumes nothing.
-use Prim.Native.Nat.{ℕ, suc, _+_, _*_, _/_}
+use Prim.Native.Nat.{ℕ, suc, _+_, _*_, _/_, _≤_, _<_}
 use mathlib.Core.Path.{_≡_, refl}
 use mathlib.Core.Bool.{true, false, cond, not, _||_}
 use mathlib.Core.List.{List, [], _∷_, _++_}
@@ -14,7 +14,7 @@ use Rattle.steps.specs.Tranches.{tranchePlaces}
 use Rattle.grounds.specs.Grounds.{Ground, firstOf, firstGround, storePlaces, someShorter, assetsGround, probabilityGround, correlationGround, recoveryGround, upperGround}
 use Rattle.grounds.specs.Grounds.{attachmentsGround, storeGround, entriesGround, rowGround, screenGround, fullCorrelationGround, countGround, poolGrounds}
 use Rattle.grounds.specs.Grounds.{trancheGrounds, tranchesGrounds, countedGrounds, fillGrounds, rowGrounds, entriesGrounds, columnGrounds, shiftGrounds, lossGrounds}
-use Rattle.grounds.specs.Grounds.{screened, screenColumnGrounds, screenLossGrounds, betaPoolGrounds, betaColumnGrounds, betaLossGrounds}
+use Rattle.grounds.specs.Grounds.{screened, Screens, screenColumnGrounds, screenLossGrounds, betaPoolGrounds, betaColumnGrounds, betaLossGrounds}
 
 -- The first ground that applies: one that does gives its number, whatever follows; one that does not leaves it to the others; none gives 0.
 pub first : (m : ℕ) (gs : List Ground)
@@ -42,6 +42,16 @@ pub figures : (n p ρ R A B k units shifts count : ℕ) (lengths : List ℕ)
     × (countGround count ≡ record { number = 13; applies = eqb count 0 || ltb 8 count })
 unfolding assetsGround probabilityGround correlationGround recoveryGround upperGround attachmentsGround storeGround entriesGround rowGround screenGround fullCorrelationGround countGround storePlaces tranchePlaces largestPool reportPool screenPool whole
 figures n p ρ R A B k units shifts count lengths = (refl, refl, refl, refl, refl, refl, refl, refl, refl, refl, refl, refl, refl, refl)
+
+-- Of the lengths of slices, some is shorter than m: one by one, and in no other way.
+pub shorter : (m l : ℕ) (ls : List ℕ) → (someShorter m [] ≡ false) × (someShorter m (l ∷ ls) ≡ (ltb l m || someShorter m ls))
+unfolding someShorter
+shorter m l ls = (refl, refl)
+
+-- What is said of the screen's number beside the library's, in full.
+pub screened-figures : {most limit n library number : ℕ} → Screens most limit n library number
+    → (limit < n → n ≤ most → number ≡ 11) × (number ≡ 11 → (limit < n) × (n ≤ most)) × ((number ≡ 11 → ⊥) → number ≡ library)
+screened-figures screens = (screens .eleven, screens .only, screens .otherwise)
 
 -- The grounds that each call checks, in order, with what it is given.
 pub orders : (most limit n p ρ k length units shifts count : ℕ) (t : Tranche) (ts : List Tranche) (lengths : List ℕ)

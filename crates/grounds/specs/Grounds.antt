@@ -1,4 +1,4 @@
--- The grounds on which a call says no, and what an accepted call's inputs are. Numbers and order are the scope paper's.
+-- The grounds on which a call says no, and what an accepted call's inputs are. Numbers and order are those of the papers.
 -- Assumes nothing.
 use Prim.Native.Nat.{ℕ, zero, suc, _+_, _*_, _/_, _≤_, _<_}
 use mathlib.Core.Path.{_≡_}

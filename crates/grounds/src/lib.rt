@@ -8,9 +8,8 @@ ghost use mathlib.Core.Bool.{cond};
 ghost use mathlib.Core.List.{[], _∷_};
 ghost use lib.ListN.{take};
 ghost use Rattle.model.specs.Number.{triangle};
-ghost use Rattle.grounds.specs.Grounds.{firstOf, firstGround, storePlaces, fourLengths, assetsGround, storeGround, entriesGround, screenGround};
-ghost use Rattle.grounds.specs.Grounds.{poolGrounds, trancheGrounds, fillGrounds, rowGrounds, entriesGrounds, columnGrounds, shiftGrounds, lossGrounds};
-ghost use Rattle.grounds.specs.Grounds.{tranchesGrounds, countedGrounds, betaPoolGrounds, betaColumnGrounds, betaLossGrounds};
+ghost use Rattle.grounds.specs.Grounds.{firstOf, firstGround, storePlaces, fourLengths, assetsGround, storeGround, entriesGround};
+ghost use Rattle.grounds.specs.Grounds.{poolGrounds, trancheGrounds, tranchesGrounds, countedGrounds};
 
 // The lengths of the four slices of a store.
 pub struct Lengths {
@@ -21,32 +20,23 @@ pub struct Lengths {
 }
 
 // The first of two refusals.
-fn first(a: u32, b: u32) -> u32
+pub fn first(a: u32, b: u32) -> u32
     ensures { λ r. ⌜ r ≡ firstOf a b ⌝ }
 {
     if a == 0 { b } else { a }
 }
 
 // The number of one ground.
-fn ground(number: u32, applies: bool) -> u32
+pub fn ground(number: u32, applies: bool) -> u32
     ensures { λ r. ⌜ r ≡ cond applies number 0 ⌝ }
 {
     if applies { number } else { 0 }
 }
 
-fn assets_refusal(most: u32, n: u32) -> u32
+pub fn assets_refusal(most: u32, n: u32) -> u32
     ensures { λ r. ⌜ r ≡ firstGround (assetsGround most n ∷ []) ⌝ }
 {
     ground(1, (n == 0) | (n > most))
-}
-
-// 1 and 11: what the quote screen, which has a limit of its own, checks first.
-pub fn screen_refusal(most: u32, limit: u32, n: u32) -> u32
-    ensures { λ r. ⌜ r ≡ firstGround (assetsGround most n ∷ screenGround limit n ∷ []) ⌝ }
-{
-    let of_assets = assets_refusal(most, n);
-    let of_screen = ground(11, n > limit);
-    first(of_assets, of_screen)
 }
 
 pub fn pool_refusal(most: u32, n: u32, p: u32, rho: u32) -> u32
@@ -76,13 +66,13 @@ pub fn row_start(k: u32) -> usize
 }
 
 // The places of rows 0 to n.
-fn store_places(n: u32) -> usize
+pub fn store_places(n: u32) -> usize
     ensures { λ r. ⌜ r ≡ storePlaces n ⌝ }
 {
     row_start(n) + n as usize + 1
 }
 
-fn store_refusal(n: u32, lengths: Lengths) -> u32
+pub fn store_refusal(n: u32, lengths: Lengths) -> u32
     ensures { λ r. ⌜ r ≡ firstGround (storeGround n (fourLengths lengths) ∷ []) ⌝ }
 {
     let places = store_places(n);
@@ -91,55 +81,11 @@ fn store_refusal(n: u32, lengths: Lengths) -> u32
     ground(7, (lengths.low_significands < places) | high)
 }
 
-pub fn fill_refusal(most: u32, n: u32, p: u32, rho: u32, lengths: Lengths) -> u32
-    ensures { λ r. ⌜ r ≡ firstGround (fillGrounds most n p rho (fourLengths lengths)) ⌝ }
-{
-    first(pool_refusal(most, n, p, rho), store_refusal(n, lengths))
-}
-
-pub fn row_refusal(most: u32, n: u32, k: u32, length: usize) -> u32
-    ensures { λ r. ⌜ r ≡ firstGround (rowGrounds most n k length) ⌝ }
-{
-    first(
-        assets_refusal(most, n),
-        first(ground(7, length < store_places(n)), ground(9, k > n)),
-    )
-}
-
 // That of a slice which has so many places for entries 0 to n.
-fn slice_refusal(number: u32, n: u32, places: usize) -> u32
+pub fn slice_refusal(number: u32, n: u32, places: usize) -> u32
     ensures { λ r. ⌜ r ≡ firstGround (entriesGround number n places ∷ []) ⌝ }
 {
     ground(number, places < n as usize + 1)
-}
-
-// 1 to 3 and 7, then that of a slice beside the store.
-fn entries_refusal(
-    number: u32,
-    most: u32,
-    n: u32,
-    p: u32,
-    rho: u32,
-    lengths: Lengths,
-    places: usize,
-) -> u32
-    ensures { λ r. ⌜ r ≡ firstGround (entriesGrounds number most n p rho (fourLengths lengths) places) ⌝ }
-{
-    let of_fill = fill_refusal(most, n, p, rho, lengths);
-    let of_entries = slice_refusal(number, n, places);
-    first(of_fill, of_entries)
-}
-
-pub fn column_refusal(most: u32, n: u32, p: u32, rho: u32, lengths: Lengths, units: usize) -> u32
-    ensures { λ r. ⌜ r ≡ firstGround (columnGrounds most n p rho (fourLengths lengths) units) ⌝ }
-{
-    entries_refusal(8, most, n, p, rho, lengths, units)
-}
-
-pub fn shift_refusal(most: u32, n: u32, p: u32, rho: u32, lengths: Lengths, shifts: usize) -> u32
-    ensures { λ r. ⌜ r ≡ firstGround (shiftGrounds most n p rho (fourLengths lengths) shifts) ⌝ }
-{
-    entries_refusal(10, most, n, p, rho, lengths, shifts)
 }
 
 // 4 to 6 of the first so many tranches, or of all where there are fewer, one tranche after the other.
@@ -158,59 +104,10 @@ fn each_tranche_refusal(tranches: [Tranche; TRANCHES], count: u32) -> u32
 }
 
 // 13, and 4 to 6 of each tranche within the count.
-fn tranches_refusal(tranches: [Tranche; TRANCHES], count: u32) -> u32
+pub fn tranches_refusal(tranches: [Tranche; TRANCHES], count: u32) -> u32
     ensures { λ r. ⌜ r ≡ firstGround (countedGrounds tranches count) ⌝ }
 {
     let of_count = ground(13, (count == 0) | (count > TRANCHES as u32));
     let of_tranches = each_tranche_refusal(tranches, count);
     first(of_count, of_tranches)
-}
-
-pub fn loss_refusal(
-    most: u32,
-    n: u32,
-    p: u32,
-    rho: u32,
-    tranches: [Tranche; TRANCHES],
-    count: u32,
-    lengths: Lengths,
-) -> u32
-    ensures { λ r. ⌜ r ≡ firstGround (lossGrounds most n p rho tranches count (fourLengths lengths)) ⌝ }
-{
-    let of_pool = pool_refusal(most, n, p, rho);
-    let of_tranches = tranches_refusal(tranches, count);
-    let of_store = store_refusal(n, lengths);
-    first(of_pool, first(of_tranches, of_store))
-}
-
-// 1 to 3 and 12.
-fn beta_pool_refusal(most: u32, n: u32, p: u32, rho: u32) -> u32
-    ensures { λ r. ⌜ r ≡ firstGround (betaPoolGrounds most n p rho) ⌝ }
-{
-    let of_pool = pool_refusal(most, n, p, rho);
-    let of_full_correlation = ground(12, rho == WHOLE);
-    first(of_pool, of_full_correlation)
-}
-
-pub fn beta_column_refusal(most: u32, n: u32, p: u32, rho: u32, units: usize) -> u32
-    ensures { λ r. ⌜ r ≡ firstGround (betaColumnGrounds most n p rho units) ⌝ }
-{
-    let of_beta_pool = beta_pool_refusal(most, n, p, rho);
-    let of_units = slice_refusal(8, n, units);
-    first(of_beta_pool, of_units)
-}
-
-pub fn beta_loss_refusal(
-    most: u32,
-    n: u32,
-    p: u32,
-    rho: u32,
-    tranches: [Tranche; TRANCHES],
-    count: u32,
-) -> u32
-    ensures { λ r. ⌜ r ≡ firstGround (betaLossGrounds most n p rho tranches count) ⌝ }
-{
-    let of_beta_pool = beta_pool_refusal(most, n, p, rho);
-    let of_tranches = tranches_refusal(tranches, count);
-    first(of_beta_pool, of_tranches)
 }

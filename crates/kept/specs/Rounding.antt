@@ -1,12 +1,5 @@
 -- Kept numbers, and the one definition of rounding.
 -- Assumes nothing.
-pub mod Exponents
-pub mod Powers
-pub mod Leading
-pub mod Laws
-pub mod Words
-pub mod Arithmetic
-pub mod Sums
 use Prim.Native.Nat.{ℕ, zero, suc, _+_, _-_, _*_, _/_, _%_, _^_, _≤_, _<_}
 use mathlib.Core.Path.{_≡_}
 use mathlib.Core.Logic.{_⊎_}
@@ -20,6 +13,13 @@ use Rattle.model.specs.Fraction.{Fraction, AtMost, plus, times, divided, intege
 use Rattle.kept.specs.declared.Kept.{Kept}
 use Rattle.kept.specs.declared.Side.{Side}
 use Rattle.kept.specs.declared.Side.the-variants.{Low, High}
+pub mod Exponents
+pub mod Powers
+pub mod Leading
+pub mod Laws
+pub mod Words
+pub mod Arithmetic
+pub mod Sums
 
 -- s × 2^e
 unfoldable pub scaled : ℕ → ℤ → Fraction
@@ -29,6 +29,7 @@ scaled s e = record { num = s * up e; den = down e; positive = down-pos e }
 abbrev pub value : Kept → Fraction
 value x = scaled (x .significand) (x .exponent)
 
+-- Zero: 0 × 2^0.
 unfoldable pub nought : Kept
 nought = record { significand = 0; exponent = pos 0 }
 

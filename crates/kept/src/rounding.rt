@@ -13,7 +13,7 @@ use super::Side;
 
 // One on the high side where something was dropped: the number that is added there carries anything but zero to 2^35. It is a sum
 // and no branch, since nothing foretells whether the last digits are all zero.
-pub fn one_more(side: Side, dropped: u64) -> u64
+fn one_more(side: Side, dropped: u64) -> u64
     requires { ⌜ dropped < 2 ^ 35 ⌝ }
     ensures { λ r. ⌜ r ≡ increment side dropped ⌝ }
 {
@@ -25,7 +25,7 @@ pub fn one_more(side: Side, dropped: u64) -> u64
 }
 
 // The exponent of a number that was shifted up.
-pub fn lowered(exponent: i32, shift: u32) -> i32
+fn lowered(exponent: i32, shift: u32) -> i32
     requires { ⌜ Reach 2000000132 exponent ⌝ ∗ ⌜ shift ≤ 64 ⌝ }
     ensures { λ r. ⌜ r ≡ exponent -ℤ pos shift ⌝ }
 {
@@ -33,7 +33,7 @@ pub fn lowered(exponent: i32, shift: u32) -> i32
 }
 
 // How far e is above f, or 32 where that is more.
-pub fn gap(e: i32, f: i32) -> u32
+fn gap(e: i32, f: i32) -> u32
     requires { ⌜ Reach 1000000000 e ⌝ ∗ ⌜ Reach 1000000000 f ⌝ ∗ ⌜ f ≤ℤ e ⌝ }
     ensures { λ r. ⌜ Gap e f r ⌝ }
 {
@@ -42,7 +42,7 @@ pub fn gap(e: i32, f: i32) -> u32
 }
 
 // The exponent that goes with a significand: one more for 2^32.
-pub fn carried_exponent(significand: u64, exponent: i32) -> i32
+fn carried_exponent(significand: u64, exponent: i32) -> i32
     requires { ⌜ significand ≤ 2 ^ 32 ⌝ ∗ ⌜ Reach 2000000200 exponent ⌝ }
     ensures { λ r. ⌜ r ≡ exponent +ℤ pos (significand / 2 ^ 32) ⌝ }
 {
@@ -50,7 +50,7 @@ pub fn carried_exponent(significand: u64, exponent: i32) -> i32
 }
 
 // A significand of 2^32 is halved, and the exponent one more: 2^31 is taken off there, and nothing below it. Zero keeps its exponent.
-pub fn carried(significand: u64, exponent: i32) -> Kept
+fn carried(significand: u64, exponent: i32) -> Kept
     requires { ⌜ significand ≤ 2 ^ 32 ⌝ ∗ ⌜ Reach 2000000200 exponent ⌝ }
     ensures { λ r. ⌜ Carried significand exponent r ⌝ }
 {
@@ -62,13 +62,13 @@ pub fn carried(significand: u64, exponent: i32) -> Kept
 }
 
 // How far a word is shifted up until its highest digit is set. Zero is not shifted.
-pub fn headroom(v: u64) -> u32
+fn headroom(v: u64) -> u32
     ensures { λ r. ⌜ r ≡ shiftOf v ⌝ }
 {
     u64::leading_zeros(v) % 64
 }
 
-pub fn shifted_up(v: u64) -> u64
+fn shifted_up(v: u64) -> u64
     ensures { λ r. ⌜ r ≡ v * 2 ^ shiftOf v ⌝ }
 {
     v << headroom(v)
@@ -76,7 +76,7 @@ pub fn shifted_up(v: u64) -> u64
 
 // Rounds once the number that is v × 2^exponent where rest is zero, and lies between that and (v + 1) × 2^exponent where rest is
 // not. In the second case v has to have all 32 digits that stay. Of zero the exponent is left open.
-pub fn round_digits(v: u64, rest: u64, exponent: i32, side: Side) -> Kept
+fn round_digits(v: u64, rest: u64, exponent: i32, side: Side) -> Kept
     requires { ⌜ Reach 2000000100 exponent ⌝ ∗ ⌜ rest < 2 ^ 34 ⌝ ∗ ⌜ (0 < rest → 2 ^ 31 ≤ v) ⌝ }
     ensures { λ r. ⌜ RoundedDigits side v rest exponent r ⌝ }
 {

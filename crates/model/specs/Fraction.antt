@@ -28,6 +28,7 @@ pub record Less (x y : Fraction) : Type 0 where
 unfoldable pub integer : ℕ → Fraction
 integer n = record { num = n; den = 1; positive = lit< tt }
 
+-- One.
 unfoldable pub certainty : Fraction
 certainty = record { num = 1; den = 1; positive = lit< tt }
 

@@ -4,8 +4,7 @@ use Prim.Native.Nat.{ℕ, suc, _-_, _≤_}
 use mathlib.Core.Path.{_≡_}
 use mathlib.Core.List.{List}
 use Rattle.model.specs.Number.{pascalRow}
-use Rattle.working.specs.Working.{workingPlaces, Entries}
-use Rattle.working.specs.Working.Laws.{Changed}
+use Rattle.working.specs.Working.{workingPlaces, Entries, Changed}
 pub mod Laws
 
 -- Row k of Pascal's triangle at every place: past k it is one.

@@ -22,7 +22,7 @@ use Rattle.working.specs.Slices.{entriesAfter}
 use Rattle.grounds.specs.Grounds.{firstGround, columnGrounds, lossGrounds}
 use Rattle.store.specs.declared.Pool.{Pool}
 use Rattle.store.specs.Stores.{Store, lengths}
-use Rattle.store.specs.Calls.{LeavesStore}
+use Rattle.store.specs.Calls.{Fills}
 pub mod Laws
 
 -- ---- over a row of chances in general: r is the exact row, c the kept chances of both sides
@@ -44,8 +44,7 @@ columnRefusal pool s units =
     firstGround (columnGrounds largestPool (pool .assets) (pool .probability) (pool .correlation) (lengths s) (length units))
 
 pub record Prints (refuses : Pool → Store → List ℕ → ℕ) (g : ℕ → ℕ) (pool : Pool) (before after : Store) (units units′ : List ℕ) (refusal : ℕ) : Type 0 where
-  pub refusal-is : refusal ≡ refuses pool before units
-  pub leaves : LeavesStore g pool before after refusal
+  pub fills : Fills (refuses pool before units) g pool before after refusal
   pub prints : PrintsRow (tenths (tenthsFor (pool .assets))) (defaults (pool .assets) (pool .probability) (pool .correlation))
       (keptDefaults Low (pool .assets) (pool .probability) (pool .correlation)) units units′ refusal
 
@@ -58,7 +57,6 @@ lossRefusal pool tranches count s =
 pub record Replies
     (refuses : Pool → List Tranche → ℕ → Store → ℕ) (g : ℕ → ℕ) (pool : Pool) (tranches : List Tranche) (count : ℕ) (before after : Store) (refusal : ℕ)
     (losses : List LossAnswer) : Type 0 where
-  pub refusal-is : refusal ≡ refuses pool tranches count before
-  pub leaves : LeavesStore g pool before after refusal
+  pub fills : Fills (refuses pool tranches count before) g pool before after refusal
   pub replies : RepliesLosses (g (pool .assets)) (defaults (pool .assets) (pool .probability) (pool .correlation))
       (λ side. keptDefaults side (pool .assets) (pool .probability) (pool .correlation)) (take count tranches) refusal losses

@@ -7,16 +7,16 @@
 -- column are differences of tails rounded to nearest, add to exactly 100,000 units, and each is less than 1.5 units off for up to 64 assets and less than 2 units for
 -- more; the entries of a shift list past the first add to less than 1.3 units for each asset, and each is less than 1.3 units off.
 -- Assumes nothing.
-use Prim.Native.Nat.{ℕ, suc, _+_, _-_, _*_, _/_, _≤_, _<_}
+use Prim.Native.Nat.{ℕ, suc, _+_, _-_, _*_, _/_, _%_, _^_, _≤_, _<_}
 use mathlib.Core.Path.{_≡_}
 use mathlib.Core.Logic.{_⊎_}
-use mathlib.Core.Bool.{false}
+use mathlib.Core.Bool.{false, cond}
 use mathlib.Core.List.{List, [], _∷_}
-use lib.Dec.{lit<}
-use lib.IntN.{ℤ, pos, negsuc, natAbs, _-ℤ_}
+use lib.Dec.{ltb, lit<}
+use lib.IntN.{ℤ, pos, negsuc, natAbs, _+ℤ_, _-ℤ_}
 use lib.Signed.{_≤ℤ_}
 use lib.ListN.{length, getD, drop}
-use lib.Ieee.{Float}
+use lib.Ieee.{Float, binary64, toBits}
 use lib.Ieee.Exact.{HasValue}
 use Rattle.model.specs.Number.{sum, integerSum}
 use Rattle.model.specs.Fraction.{Fraction, Same, AtMost, Less, integer, plus, times}
@@ -26,14 +26,14 @@ use Rattle.model.specs.BetaBinomial.{betaProbability, betaDefaults}
 use Rattle.kept.specs.declared.Kept.{Kept}
 use Rattle.kept.specs.declared.Side.{Side}
 use Rattle.kept.specs.declared.Side.the-variants.{Low, High}
-use Rattle.kept.specs.Rounding.{scaled, value, nought}
+use Rattle.kept.specs.Rounding.{scaled, value}
 use Rattle.steps.specs.CorrelatedBinomial.Rows.{keptRow}
 use Rattle.steps.specs.Chances.{keptTail, keptLoss}
 use Rattle.steps.specs.Column.{printedTail}
 use Rattle.steps.specs.CorrelatedBinomial.{keptDefaults}
 use Rattle.steps.specs.CorrelatedBinomial.Exponents.{PoolNumber}
 use Rattle.steps.specs.BetaBinomial.{keptEntry, keptBetaDefaults, BetaNumber}
-use Rattle.steps.specs.Inputs.{upTo, distanceFor}
+use Rattle.steps.specs.Inputs.{distanceFor}
 use Rattle.steps.specs.declared.Tranche.{Tranche}
 use Rattle.grounds.specs.Grounds.{Ground, firstGround, fillGrounds, rowGrounds, columnGrounds, shiftGrounds, lossGrounds, screenColumnGrounds, screenLossGrounds, Screens, betaColumnGrounds, betaLossGrounds}
 use Rattle.store.specs.declared.Pool.{Pool}
@@ -58,14 +58,18 @@ pub record Demand2 (low high : Kept) (exact : Fraction) : Type 0 where
   pub from-below : AtMost (value low) exact
   pub from-above : AtMost exact (value high)
 
+-- The kept number zero: 0 × 2^0.
+unfoldable pub keptZero : Kept
+keptZero = record { significand = 0; exponent = pos 0 }
+
 -- Demand 3, of two bounds that may be one part in so many apart: parts × (high − low) ≤ exact, so that an exact zero has zero for both.
 pub record Demand3 (parts : ℕ) (low high : Kept) (exact : Fraction) : Type 0 where
   pub apart : AtMost (times (integer parts) (value high)) (plus exact (times (integer parts) (value low)))
-  pub of-zero : exact .num ≡ 0 → (low ≡ nought) × (high ≡ nought)
+  pub of-zero : exact .num ≡ 0 → (low ≡ keptZero) × (high ≡ keptZero)
 
 -- Bounds for n assets, those of row n of a store for a pool of any size among them, may be one part in so many apart: 100,000 for up to 64, and 50,000 for more.
 unfoldable pub partsFor : ℕ → ℕ
-partsFor n = upTo 64 n 100000 50000
+partsFor n = cond (ltb 64 n) 50000 100000
 
 -- Demands 2 and 3 of two bounds.
 pub record BoundDemands (parts : ℕ) (low high : Kept) (exact : Fraction) : Type 0 where
@@ -88,13 +92,14 @@ oneAndAHalf = record { num = 3; den = 2; positive = lit< tt }
 
 -- A printed row for n assets is less than so many units off: 1.5 for up to 64 assets, and 2 for more.
 unfoldable pub unitsOff : ℕ → Fraction
-unitsOff n = upTo 64 n oneAndAHalf (integer 2)
+unitsOff n = cond (ltb 64 n) (integer 2) oneAndAHalf
 
--- Demand 3, of a column: row k, as it stands in the slice, is what the printed tail at k has more than the next. Rows 0 to n add to exactly 100,000, and row k is
+-- Demand 3, of a column: row k, as it stands in the slice, is what the printed tail at k has more than the next, and row n is its own tail. Rows 0 to n add to exactly 100,000, and row k is
 -- less than `unitsOff n` from 100,000 times the exact chance of k defaults.
 pub record Demand3Column (n : ℕ) (low : ℕ → Kept) (printed : ℕ → ℕ) (exact : ℕ → Fraction) (units : List ℕ) : Type 0 where
   pub printed-is : PrintedDemands low printed
   pub difference : (k : ℕ) → k ≤ n → getD units k 0 + printed (suc k) ≡ printed k
+  pub last : getD units n 0 ≡ printed n
   pub total : sum (suc n) (λ k. getD units k 0) ≡ 100000
   pub not-above : (k : ℕ) → k ≤ n → Less (integer (getD units k 0)) (plus (times (integer 100000) (exact k)) (unitsOff n))
   pub not-below : (k : ℕ) → k ≤ n → Less (times (integer 100000) (exact k)) (plus (integer (getD units k 0)) (unitsOff n))
@@ -158,25 +163,32 @@ edge = scaled 1 (negsuc 799)
 abbrev pub Exactly : Float → Fraction → Type 0
 Exactly x z = HasValue x false (z .num) (z .den)
 
+-- An f64 is a kept number, exactly: its value, and its 64 bits, which are the sign 0, 11 of the exponent and 52 of the fraction.
+pub record BitsDemands (x : Kept) (number : Float) : Type 0 where
+  pub exactly : Exactly number (value x)
+  pub sign : toBits binary64 number / 2 ^ 63 ≡ 0
+  pub exponent-field : pos (toBits binary64 number / 2 ^ 52 % 2 ^ 11) ≡ x .exponent +ℤ pos 1054
+  pub fraction-field : toBits binary64 number % 2 ^ 52 ≡ (x .significand - 2 ^ 31) * 2 ^ 21
+
 -- A faint loss: the low bound is below 2^−800 and the high one is not zero; the number is the greater of the high bound and 2^−800.
 pub record FaintDemands (low high : Kept) (number : Float) : Type 0 where
   pub low-below : Less (value low) edge
-  pub high-not-zero : high ≡ nought → ⊥
-  pub greater : Fraction
-  pub number-is : Exactly number greater
-  pub from-high : AtMost (value high) greater
-  pub from-edge : AtMost edge greater
-  pub either : Same greater (value high) ⊎ Same greater edge
+  pub high-not-zero : high ≡ keptZero → ⊥
+  pub greater : Kept
+  pub number-is : BitsDemands greater number
+  pub from-high : AtMost (value high) (value greater)
+  pub from-edge : AtMost edge (value greater)
+  pub either : Same (value greater) (value high) ⊎ Same (value greater) edge
 
 -- A shown loss: the low bound is not below 2^−800; the numbers are the two bounds.
 pub record ShownDemands (low high : Kept) (lower upper : Float) : Type 0 where
   pub low-not-below : AtMost edge (value low)
-  pub lower-is : Exactly lower (value low)
-  pub upper-is : Exactly upper (value high)
+  pub lower-is : BitsDemands low lower
+  pub upper-is : BitsDemands high upper
 
 -- A loss, from the two bounds of step 6. Those of an untouched loss are zero.
 abbrev pub LossDemands : (low high : Kept) → Loss → Type 0
-LossDemands low high Untouched = (low ≡ nought) × (high ≡ nought)
+LossDemands low high Untouched = (low ≡ keptZero) × (high ≡ keptZero)
 LossDemands low high (Faint number) = FaintDemands low high number
 LossDemands low high (Shown bounds) = ShownDemands low high (bounds .low) (bounds .high)
 
@@ -237,8 +249,9 @@ module _ (pool : Pool) where
   abbrev places : ℕ
   places = (n + 1) * (n + 2) / 2
 
-  -- What every call that fills the store leaves of it where it is accepted: the table, and behind it what stood there.
+  -- What every call that fills the store leaves of it where it is accepted: the table, and behind it what stood there. No slice is longer or shorter than it was.
   pub record StoreDemands (parts : ℕ → ℕ) (before after : Slices) (refusal : ℕ) : Type 0 where
+    pub lengths : refusal ≡ 0 → lengthsOf after ≡ lengthsOf before
     pub table : refusal ≡ 0 → TableDemands parts after
     pub later : refusal ≡ 0 → from places after ≡ from places before
 
@@ -250,6 +263,7 @@ module _ (pool : Pool) where
   pub record EntriesDemands {A : Type 0} (parts : ℕ → ℕ) (grounds : List Ground) (before after : Slices) (old new : List A) (refusal : ℕ) : Type 0 where
     pub one : Demand1 {Given = Slices × List A} grounds refusal (before, old) (after, new)
     pub store : StoreDemands parts before after refusal
+    pub entries-length : refusal ≡ 0 → length new ≡ length old
     pub later-entries : refusal ≡ 0 → drop (n + 1) new ≡ drop (n + 1) old
 
   -- The tails of the low side that step 5 makes, at a correlation.
@@ -282,14 +296,16 @@ module _ (pool : Pool) where
   -- Its column call, which is lent no store.
   pub record BetaColumnDemands (units units′ : List ℕ) (refusal : ℕ) : Type 0 where
     pub one : Demand1 (betaColumnGrounds 100 n p ρ (length units)) refusal units units′
+    pub units-length : refusal ≡ 0 → length units′ ≡ length units
     pub later-units : refusal ≡ 0 → drop (n + 1) units′ ≡ drop (n + 1) units
     pub row : refusal ≡ 0 → BetaRowDemands (partsFor n)
     pub column : refusal ≡ 0
         → Demand3Column n (keptTail Low n (keptBetaDefaults Low n p ρ)) (printedTail n (keptBetaDefaults Low n p ρ)) (chance (betaDefaults n p ρ)) units′
 
-  -- The other correlation is 0.
+  -- The other correlation is 0. What the steps make there, which stands in no slice, has bounds and a range as well.
   pub record ShiftDemands (before after : Slices) (shifts shifts′ : List ℤ) (refusal : ℕ) : Type 0 where
     pub leaves : EntriesDemands partsFor (shiftGrounds 64 n p ρ (lengthsOf before) (length shifts)) before after shifts shifts′ refusal
+    pub uncorrelated : refusal ≡ 0 → StepsDemands (partsFor n) n (defaults n p 0) (λ side. keptDefaults side n p 0) (λ side. PoolNumber side n p 0)
     pub list : refusal ≡ 0
         → Demand3Shifts n (lowTails ρ) (lowTails 0) (printedTail n (keptDefaults Low n p ρ)) (printedTail n (keptDefaults Low n p 0))
         (tail (defaults n p ρ)) (tail (defaults n p 0)) shifts′

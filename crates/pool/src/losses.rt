@@ -28,7 +28,7 @@ pub fn tranche_losses(
         (r .refusal)
         (lossesIn (r .losses)) ⌝ }
 {
-    let refusal = grounds::loss_refusal(
+    let refusal = refusals::loss_refusal(
         LARGEST_POOL,
         pool.assets,
         pool.probability,

@@ -24,7 +24,7 @@ pub fn column(
         (now (units .exit))
         r ⌝ }
 {
-    let refusal = grounds::column_refusal(
+    let refusal = refusals::column_refusal(
         LARGEST_POOL,
         pool.assets,
         pool.probability,

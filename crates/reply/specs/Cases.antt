@@ -1,9 +1,12 @@
--- The answer to the line of the pool n = 3, p = 1000, ρ = 3000, to those of pools with no asset and with 65, and to no line, byte for byte.
+-- The answer to every input, with the limits in figures; and to the line of the pool n = 3, p = 1000, ρ = 3000, to those of pools with no asset and with 65, and to no
+-- line, byte for byte.
 -- Assumes nothing.
-use Prim.Native.Nat.{ℕ, zero, suc, _+_, _≤_}
+use Prim.Native.Nat.{ℕ, zero, suc, _+_, _≤_, _<_}
 use mathlib.Core.Path.{_≡_, refl, sym, ap, _∙_}
+use mathlib.Core.Logic.{_⊎_, inl, inr}
 use mathlib.Core.List.{List, [], _∷_}
 use native.Mathlib.Omega.{arith}
+use borrow.Author.Tests.{ne-eqb, lt-ltb, le-ltb}
 use lib.Dec.{lit≤, lit<}
 use lib.ListN.{length, take, length-append}
 use Rattle.model.specs.Fraction.{whole}
@@ -18,7 +21,7 @@ use Rattle.grounds.specs.Grounds.{firstOf, firstGround, poolGrounds, assetsGrou
 use Rattle.text.specs.Ascii.{ascii}
 use Rattle.text.specs.Cases.{line-of-decimals, line-of-three, table-of-three}
 use Rattle.text.specs.Line.{Accepts}
-use Rattle.text.specs.Table.{digitsBySteps, decimal, fieldText, rowOf, refusedText, refusedLine}
+use Rattle.text.specs.Table.{digitsBySteps, decimal, fieldText, rowOf, tableText, refusedText, refusedLine}
 use Rattle.text.specs.Table.Laws.{column-text}
 use Rattle.reply.specs.declared.Reply.{Reply}
 use Rattle.reply.specs.Reply.{AnswersInput, AnswersStart, Carries}
@@ -58,19 +61,49 @@ reply-of-three answers =
     ∙ sym (column-text 3 columnOfThree (printedRow 3 (keptDefaults Low 3 1000 3000)) tails same difference past)
     ∙ table-of-three
 
--- A pool that ground 1 refuses.
-refused : {n p ρ : ℕ} {input text : List ℕ} → Accepts input n p ρ → firstGround (poolGrounds reportPool n p ρ) ≡ 1 → AnswersInput input text
-    → text ≡ ascii "refused 1\n"
-unfolding refusedText fieldText decimal digitsBySteps ascii
-refused line refusal answers = answers .line _ _ _ line .refused (λ none. omega (arith, refusal)) ∙ ap refusedText refusal
+-- ---- every input
+
+pub reply-no-line : {input text : List ℕ} → AnswersInput input text → ((n p ρ : ℕ) → Accepts input n p ρ → ⊥) → text ≡ ascii "refused line\n"
+unfolding refusedLine ascii
+reply-no-line answers = answers .no-line
+
+module _ {n p ρ : ℕ} {input text : List ℕ} (line : Accepts input n p ρ) (answers : AnswersInput input text) where
+  -- The ground is the first of 1 to 3 that applies.
+  refused-by : (number : ℕ) → 0 < number → firstGround (poolGrounds reportPool n p ρ) ≡ number → text ≡ refusedText number
+  refused-by number above is = answers .line _ _ _ line .refused (λ none. omega (arith, is)) ∙ ap refusedText is
+
+  pub reply-refused-one : (n ≡ 0) ⊎ (64 < n) → text ≡ ascii "refused 1\n"
+  unfolding refusedText fieldText decimal digitsBySteps ascii firstGround firstOf poolGrounds assetsGround reportPool
+  reply-refused-one wrong = refused-by 1 (lit< tt) (elim wrong [
+    | inl none ↦ rw none refl
+    | inr many ↦ rw (ne-eqb n 0 (omega arith), lt-ltb 64 n many) refl
+  ])
+
+  module _ (some : 1 ≤ n) (few : n ≤ 64) where
+    pub reply-refused-two : 10000 < p → text ≡ ascii "refused 2\n"
+    unfolding refusedText fieldText decimal digitsBySteps ascii firstGround firstOf poolGrounds assetsGround probabilityGround reportPool whole
+    reply-refused-two above = refused-by 2 (lit< tt) (rw (ne-eqb n 0 (omega arith), le-ltb 64 n few, lt-ltb 10000 p above) refl)
+
+    module _ (probable : p ≤ 10000) where
+      pub reply-refused-three : 10000 < ρ → text ≡ ascii "refused 3\n"
+      unfolding refusedText fieldText decimal digitsBySteps ascii firstGround firstOf poolGrounds assetsGround probabilityGround correlationGround reportPool whole
+      reply-refused-three above =
+          refused-by 3 (lit< tt) (rw (ne-eqb n 0 (omega arith), le-ltb 64 n few, le-ltb 10000 p probable, lt-ltb 10000 ρ above) refl)
+
+      pub reply-table : ρ ≤ 10000 → text ≡ tableText n (printedRow n (keptDefaults Low n p ρ)) (printedTail n (keptDefaults Low n p ρ))
+      unfolding firstGround firstOf poolGrounds assetsGround probabilityGround correlationGround reportPool whole
+      reply-table correlated =
+          answers .line _ _ _ line .table (rw (ne-eqb n 0 (omega arith), le-ltb 64 n few, le-ltb 10000 p probable, le-ltb 10000 ρ correlated) refl)
+
+-- ---- some inputs
 
 pub reply-of-none : {text : List ℕ} → AnswersInput (ascii "0 1000 3000\n") text → text ≡ ascii "refused 1\n"
-unfolding firstGround firstOf poolGrounds assetsGround probabilityGround correlationGround reportPool whole decimal digitsBySteps ascii
-reply-of-none = refused (line-of-decimals 0 1000 3000 (lit< tt) (lit< tt) (lit< tt)) refl
+unfolding decimal digitsBySteps ascii
+reply-of-none answers = reply-refused-one (line-of-decimals 0 1000 3000 (lit< tt) (lit< tt) (lit< tt)) answers (inl refl)
 
 pub reply-of-sixty-five : {text : List ℕ} → AnswersInput (ascii "65 1000 3000\n") text → text ≡ ascii "refused 1\n"
-unfolding firstGround firstOf poolGrounds assetsGround probabilityGround correlationGround reportPool whole decimal digitsBySteps ascii
-reply-of-sixty-five = refused (line-of-decimals 65 1000 3000 (lit< tt) (lit< tt) (lit< tt)) refl
+unfolding decimal digitsBySteps ascii
+reply-of-sixty-five answers = reply-refused-one (line-of-decimals 65 1000 3000 (lit< tt) (lit< tt) (lit< tt)) answers (inr (lit< tt))
 
 -- A number alone is no line.
 pub reply-of-number : {text : List ℕ} → AnswersInput (ascii "3\n") text → text ≡ ascii "refused line\n"

@@ -29,7 +29,7 @@ pub fn column(
         (now (units .exit))
         r ⌝ }
 {
-    let refusal = grounds::screen_refusal(LARGEST_POOL, SCREEN_POOL, pool.assets);
+    let refusal = refusals::screen_refusal(LARGEST_POOL, SCREEN_POOL, pool.assets);
     if refusal != 0 {
         return refusal;
     }
@@ -59,7 +59,7 @@ pub fn tranche_losses(
         (r .refusal)
         (lossesIn (r .losses)) ⌝ }
 {
-    let refusal = grounds::screen_refusal(LARGEST_POOL, SCREEN_POOL, pool.assets);
+    let refusal = refusals::screen_refusal(LARGEST_POOL, SCREEN_POOL, pool.assets);
     if refusal != 0 {
         return expected_losses::refused(refusal);
     }

@@ -10,13 +10,14 @@ use Rattle.kept.specs.declared.Side.the-variants.{Low}
 use Rattle.steps.specs.Column.{tenths}
 use Rattle.steps.specs.Shifts.{tailShift}
 use Rattle.steps.specs.CorrelatedBinomial.{keptDefaults}
+use Rattle.steps.specs.CorrelatedBinomial.Exponents.{PoolNumber}
 use Rattle.steps.specs.Inputs.{reportPool, distanceFor, shiftTenths}
-use Rattle.steps.specs.Promises.{HoldsShifts}
+use Rattle.steps.specs.Promises.{HoldsSteps, HoldsShifts}
 use Rattle.working.specs.Slices.{entriesAfter}
 use Rattle.grounds.specs.Grounds.{firstGround, shiftGrounds}
 use Rattle.store.specs.declared.Pool.{Pool}
 use Rattle.store.specs.Stores.{Store, lengths}
-use Rattle.store.specs.Calls.{LeavesStore}
+use Rattle.store.specs.Calls.{Fills}
 pub mod Laws
 pub mod Demands
 
@@ -26,8 +27,11 @@ shiftRefusal pool s shifts =
 
 -- The store is that of the pool. Entry k of the list is the printed tail at k less that of the same pool at correlation 0.
 pub record ListsShifts (pool : Pool) (before after : Store) (shifts shifts′ : List ℤ) (refusal : ℕ) : Type 0 where
-  pub refusal-is : refusal ≡ shiftRefusal pool before shifts
-  pub leaves : LeavesStore distanceFor pool before after refusal
+  pub fills : Fills (shiftRefusal pool before shifts) distanceFor pool before after refusal
+  -- What the steps make of the pool at correlation 0, which stands in no slice.
+  pub uncorrelated-hold : refusal ≡ 0
+      → HoldsSteps (distanceFor (pool .assets)) (defaults (pool .assets) (pool .probability) 0) (λ side. keptDefaults side (pool .assets) (pool .probability) 0)
+      (λ side. PoolNumber side (pool .assets) (pool .probability) 0)
   pub shifts-are : shifts′
       ≡ entriesAfter (pool .assets)
       (tailShift (pool .assets) (keptDefaults Low (pool .assets) (pool .probability) (pool .correlation)) (keptDefaults Low (pool .assets) (pool .probability) 0))

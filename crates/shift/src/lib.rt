@@ -28,7 +28,7 @@ pub fn shift_list(
         (now (shifts .exit))
         r ⌝ }
 {
-    let refusal = grounds::shift_refusal(
+    let refusal = refusals::shift_refusal(
         REPORT_POOL,
         pool.assets,
         pool.probability,

@@ -26,7 +26,7 @@ pub record Bounded (b : ℕ) (r : Chances) (c : Side → ℕ → Kept) : Type 0 
   pub bound : (side : Side) (j : ℕ) → j ≤ r .assets → Bound side b (c side j) (chance r j)
 
 -- What the promises of a row rest on: entries of both sides within b parts of values v; these values times the counts of orders are the chances of a complete row.
--- Every number is then within half of the 2^31 parts of its exact value.
+-- Every number is then within half of the 2^31 parts of its exact value. With at most 100 assets no count of orders is above 2^100, and loss units are below 2^32.
 pub record WithinBudget (b : ℕ) (r : Chances) (v : ℕ → Fraction) (entry : Side → ℕ → Kept) : Type 0 where
   pub complete : Complete r
   pub entries : (side : Side) (j : ℕ) → j ≤ r .assets → Bound side b (entry side j) (v j)

@@ -26,6 +26,7 @@ use Rattle.steps.specs.Column.{unitsOfCertainty, exactUnits, half, inUni
 use Rattle.steps.specs.Shifts.{tailShift}
 use Rattle.steps.specs.CorrelatedBinomial.{keptDefaults}
 use Rattle.steps.specs.Loss.{untouched, faint, shown, keptLeastShown, raisedToShown, lossAnswer}
+pub mod Rules
 
 -- s × 2^−(n+1)
 abbrev pub figure : (s n : ℕ) → Kept
@@ -88,6 +89,10 @@ pub cases :
     × (lossAnswer (threeLoss 1000 3000 (lit< tt) Low) (threeLoss 1000 3000 (lit< tt) High) ≡ shown (toBinary64 (figure 2399314755 33)) (toBinary64 (figure 2399314766 33)))
     × (lossAnswer (threeLoss 6000 10000 (lit< tt) Low) (threeLoss 6000 10000 (lit< tt) High) ≡ untouched)
     × (lossAnswer nought (figure 2147483648 900) ≡ faint (toBinary64 keptLeastShown))
+    -- The same with a high bound of 2^−770.
+    × (lossAnswer nought (figure 2147483648 800) ≡ faint (toBinary64 (figure 2147483648 800)))
+    -- Here one quotient by the width shows in the last digit: by B − A and then by n it would be another.
+    × Digits (threeLoss 0 7000 (lit< tt)) 2945120426 2945120438 34
     -- A tail of 17/64, 26,562.5 units, on both sides; one of 2.5 units, with less on the low side; one of 69.53 units.
     × Digits (tailOf 2 5000 625 2) 2281701376 2281701376 32
     × (printedOf 2 5000 625 2 ≡ 26563)
@@ -101,6 +106,10 @@ pub cases :
     × Digits (λ side. summedCount side 4 2) 3221225472 3221225472 28
     × Digits (λ side. summedCount side 4 3) 2147483648 2147483648 28
     × Digits (λ side. summedCount side 4 4) 2147483648 2147483648 30
+    -- Zero is 0 and 0, and one is 2^31 and −31: the entries of row 1 where no asset defaults.
+    × (keptRow Low 0 3000 1 1 ≡ record { significand = 0; exponent = pos 0 })
+    × (keptRow High 0 3000 1 1 ≡ record { significand = 0; exponent = pos 0 })
+    × Digits (λ side. keptRow side 0 3000 1 0) 2147483648 2147483648 30
 unfolding scaled nought unity increment carry round roundedProduct roundedSum roundedQuotient ofInteger ofBasisPoints size choose raise integer plus times divided whole complement over pascalRow pass passed lossAbove lossUnits constant keptConditional keptJoint keptPower keptWeight keptPassStep keptRow keptTotal upTo exactAssets summedCount keptCount keptChance keptChances keptTail keptTerm keptLoss unitsOfCertainty exactUnits half wholeOf inUnits printedTail printedRow tailShift keptDefaults leastShown belowShown keptLeastShown raisedToShown lossAnswer
 cases = (
   (refl, refl),
@@ -136,6 +145,8 @@ cases = (
   refl,
   refl,
   refl,
+  refl,
+  (refl, refl),
   (refl, refl),
   refl,
   refl,
@@ -145,6 +156,9 @@ cases = (
   (refl, refl),
   (refl, refl),
   (refl, refl),
+  (refl, refl),
+  refl,
+  refl,
   (refl, refl),
 )
 

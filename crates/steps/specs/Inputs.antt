@@ -1,4 +1,4 @@
--- What the inputs of a pool and of a tranche are.
+-- The limits on the number of assets, how far bounds, printed rows and shifts may be off for so many, and what the inputs of a pool and of a tranche are.
 -- Assumes nothing.
 use Prim.Native.Nat.{ℕ, _≤_, _<_}
 use mathlib.Core.Bool.{cond}

@@ -1,4 +1,4 @@
--- What the calls on a store promise, and how every call that fills one leaves it.
+-- What every call that fills a store promises of its refusal and of the store, and what `row` promises.
 -- Assumes nothing.
 use Prim.Native.Nat.{ℕ, zero, suc, _+_, _≤_}
 use mathlib.Core.Path.{_≡_}
@@ -9,7 +9,7 @@ use Rattle.kept.specs.declared.Side.{Side}
 use Rattle.steps.specs.CorrelatedBinomial.{keptDefaults}
 use Rattle.steps.specs.CorrelatedBinomial.Rows.{keptRow}
 use Rattle.steps.specs.CorrelatedBinomial.Exponents.{PoolNumber}
-use Rattle.steps.specs.Inputs.{largestPool, distanceFor}
+use Rattle.steps.specs.Inputs.{largestPool}
 use Rattle.steps.specs.Promises.{HoldsSteps}
 use Rattle.working.specs.Slices.{tabulate, overwritten}
 use Rattle.rows.specs.Store.{stored}
@@ -18,9 +18,10 @@ use Rattle.store.specs.declared.Pool.{Pool}
 use Rattle.store.specs.Stores.{Store, lengths, place, storeAfter, HoldsEntries}
 pub mod Laws
 
--- How every call that works the table out leaves the store: filled, or untouched on a refusal. With what holds of a filled store, and of all that the steps make
--- of the pool; bounds for k assets are at most one part in g k apart.
-pub record LeavesStore (g : ℕ → ℕ) (pool : Pool) (before after : Store) (refusal : ℕ) : Type 0 where
+-- Of every call that works the table out: it refuses by the number that its list of grounds gives, and leaves the store filled, or untouched on a refusal. With what
+-- holds of a filled store, and of all that the steps make of the pool; bounds for k assets are at most one part in g k apart.
+pub record Fills (number : ℕ) (g : ℕ → ℕ) (pool : Pool) (before after : Store) (refusal : ℕ) : Type 0 where
+  pub refusal-is : refusal ≡ number
   pub store-is : after ≡ storeAfter (pool .assets) (pool .probability) (pool .correlation) refusal before
   pub holds : refusal ≡ 0 → HoldsEntries (pool .assets) (pool .probability) (pool .correlation) g after
   pub steps-hold : refusal ≡ 0
@@ -32,10 +33,6 @@ pub record LeavesStore (g : ℕ → ℕ) (pool : Pool) (before after : Store) (r
 
 unfoldable pub fillRefusal : Pool → Store → ℕ
 fillRefusal pool s = firstGround (fillGrounds largestPool (pool .assets) (pool .probability) (pool .correlation) (lengths s))
-
-pub record Fills (pool : Pool) (before after : Store) (refusal : ℕ) : Type 0 where
-  pub refusal-is : refusal ≡ fillRefusal pool before
-  pub leaves : LeavesStore distanceFor pool before after refusal
 
 -- ---- row
 

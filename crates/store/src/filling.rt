@@ -5,11 +5,11 @@ use kept::Kept;
 use kept::Side;
 use steps::LARGEST_POOL;
 use working::PLACES;
-ghost use Rattle.steps.specs.Inputs.{largestPool};
+ghost use Rattle.steps.specs.Inputs.{largestPool, distanceFor};
 ghost use Rattle.grounds.specs.Grounds.{FillAccepted};
 ghost use Rattle.store.specs.Stores.{store, lengths};
 ghost use Rattle.store.specs.Filling.{FilledBoth};
-ghost use Rattle.store.specs.Calls.{Fills};
+ghost use Rattle.store.specs.Calls.{fillRefusal, Fills};
 
 // Row n of either side.
 pub struct LastRows {
@@ -61,12 +61,14 @@ pub fn fill(
     low_exponents: &mut [i32],
     high_exponents: &mut [i32],
 ) -> u32
-    ensures { λ r. ⌜ Fills pool
+    ensures { λ r. ⌜ Fills
+        (fillRefusal pool (store (now («low_significands» .entry)) (now («high_significands» .entry)) (now («low_exponents» .entry)) (now («high_exponents» .entry))))
+        distanceFor pool
         (store (now («low_significands» .entry)) (now («high_significands» .entry)) (now («low_exponents» .entry)) (now («high_exponents» .entry)))
         (store (now («low_significands» .exit)) (now («high_significands» .exit)) (now («low_exponents» .exit)) (now («high_exponents» .exit)))
         r ⌝ }
 {
-    let refusal = grounds::fill_refusal(
+    let refusal = refusals::fill_refusal(
         LARGEST_POOL,
         pool.assets,
         pool.probability,

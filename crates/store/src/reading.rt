@@ -8,7 +8,7 @@ ghost use Rattle.store.specs.Calls.{HandsRow, rowRefusal};
 pub fn row(n: u32, k: u32, significands: &[u32]) -> &[u32]
     ensures { λ r. ⌜ HandsRow n k (now (significands .entry)) (now r) ⌝ }
 {
-    let refusal = grounds::row_refusal(LARGEST_POOL, n, k, significands.len());
+    let refusal = refusals::row_refusal(LARGEST_POOL, n, k, significands.len());
     if refusal != 0 {
         return &significands[0..0];
     }
@@ -21,5 +21,5 @@ pub fn row(n: u32, k: u32, significands: &[u32]) -> &[u32]
 pub fn row_refusal(n: u32, k: u32, significands: &[u32]) -> u32
     ensures { λ r. ⌜ r ≡ rowRefusal n k (now (significands .entry)) ⌝ }
 {
-    grounds::row_refusal(LARGEST_POOL, n, k, significands.len())
+    refusals::row_refusal(LARGEST_POOL, n, k, significands.len())
 }

@@ -1,19 +1,19 @@
 // Runs the calls of the beta-binomial at the edges of what they accept, beside those of Moody's model where the two have the same
 // chances, and on random pools, a line for each case. tools/trial_beta.py works the same lines out in exact whole numbers.
 use pool::Pool;
-use trial_pool::Call;
-use trial_pool::Calls;
-use trial_pool::Library;
-use trial_pool::List;
-use trial_pool::ROWS;
-use trial_pool::list_corners;
-use trial_pool::list_half_way;
-use trial_pool::list_pools;
-use trial_pool::no_places;
-use trial_pool::pool_of;
-use trial_pool::random_cases;
+use trial_inputs::edges::List;
+use trial_inputs::edges::list_corners;
+use trial_inputs::edges::list_half_way;
+use trial_inputs::edges::list_pools;
+use trial_inputs::edges::no_places;
+use trial_inputs::random::Calls;
+use trial_inputs::random::random_cases;
+use trial_lines::Call;
+use trial_lines::Library;
+use trial_lines::ROWS;
+use trial_lines::pool_of;
+use trial_lines::tranches::tranche_of;
 use trial_pool::run_ample;
-use trial_pool::tranche_of;
 ghost use Prim.Native.Nat.{_≤_};
 
 fn column(places: usize, assets: u32, probability: u32, correlation: u32) {

@@ -1,24 +1,24 @@
 // Runs each call at the edges of what it accepts, and where a last digit decides, a line for each case. tools/trial_pool_cases.py
 // works the same lines out in exact whole numbers.
 use pool::Pool;
-use trial_pool::Call;
-use trial_pool::Lengths;
-use trial_pool::Library;
-use trial_pool::List;
-use trial_pool::ROWS;
-use trial_pool::exact_lengths;
-use trial_pool::later_ends;
-use trial_pool::lists;
-use trial_pool::longer_lengths;
-use trial_pool::no_places;
-use trial_pool::over_others;
-use trial_pool::pool_of;
+use trial_inputs::edges::List;
+use trial_inputs::edges::exact_lengths;
+use trial_inputs::edges::later_ends;
+use trial_inputs::edges::lists;
+use trial_inputs::edges::longer_lengths;
+use trial_inputs::edges::no_places;
+use trial_inputs::edges::over_others;
+use trial_inputs::edges::rows_of;
+use trial_lines::Call;
+use trial_lines::Lengths;
+use trial_lines::Library;
+use trial_lines::ROWS;
+use trial_lines::pool_of;
+use trial_lines::tranches::tranche_of;
 use trial_pool::row;
-use trial_pool::rows_of;
 use trial_pool::run;
 use trial_pool::run_ample;
 use trial_pool::run_over;
-use trial_pool::tranche_of;
 ghost use Prim.Native.Nat.{_≤_};
 
 // ---- the fill

@@ -1,24 +1,24 @@
 // Runs the calls of the quote screen around its ceiling, at the edges of what they accept, and on random pools of up to 20 assets
 // beside the library's calls, a line for each case. tools/trial_screen.py works the same lines out in exact whole numbers.
 use pool::Pool;
-use trial_pool::Call;
-use trial_pool::Calls;
-use trial_pool::LARGE_ROWS;
-use trial_pool::Lengths;
-use trial_pool::Library;
-use trial_pool::List;
-use trial_pool::ROWS;
-use trial_pool::exact_lengths;
-use trial_pool::later_ends;
-use trial_pool::list_lengths;
-use trial_pool::lists;
-use trial_pool::longer_lengths;
-use trial_pool::over_others;
-use trial_pool::pool_of;
-use trial_pool::random_cases;
+use trial_inputs::edges::List;
+use trial_inputs::edges::exact_lengths;
+use trial_inputs::edges::later_ends;
+use trial_inputs::edges::list_lengths;
+use trial_inputs::edges::lists;
+use trial_inputs::edges::longer_lengths;
+use trial_inputs::edges::over_others;
+use trial_inputs::random::Calls;
+use trial_inputs::random::random_cases;
+use trial_lines::Call;
+use trial_lines::LARGE_ROWS;
+use trial_lines::Lengths;
+use trial_lines::Library;
+use trial_lines::ROWS;
+use trial_lines::pool_of;
+use trial_lines::tranches::tranche_of;
 use trial_pool::run;
 use trial_pool::run_ample;
-use trial_pool::tranche_of;
 
 fn column_of(places: usize) -> Call {
     Call::Column(Library::Screen, places)

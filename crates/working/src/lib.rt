@@ -3,7 +3,9 @@ use kept::Kept;
 use steps::WORKING_ASSETS;
 ghost use mathlib.Core.Path.{_≡_};
 ghost use Prim.Native.Nat.{suc, _+_};
-ghost use Rattle.working.specs.Working.{workingPlaces, Entries};
+ghost use lib.ListN.{replicate};
+ghost use Rattle.kept.specs.Rounding.{nought};
+ghost use Rattle.working.specs.Working.{workingPlaces, Changed};
 ghost use Rattle.working.specs.Slices.{sideStore, numberAt, withNumber, HasPlaces, Readable};
 
 // The places of a working row: one more than the assets that it has places for.
@@ -32,7 +34,7 @@ pub fn put_number(x: Kept, at: usize, significands: &mut [u32], exponents: &mut 
     exponents[at] = exponent;
 }
 
-// The first entries of a working row, from a place on.
+// A working row with so many entries from a place on, and zeros behind them.
 pub fn read_row(
     count: usize,
     from: usize,
@@ -40,7 +42,8 @@ pub fn read_row(
     exponents: &[i32],
 ) -> [Kept; PLACES]
     requires { ⌜ Readable count from (sideStore (now significands) (now exponents)) ⌝ }
-    ensures { λ r. ⌜ Entries workingPlaces count r (λ j. numberAt (sideStore (now (significands .entry)) (now (exponents .entry))) (from + j)) ⌝ }
+    ensures { λ r. ⌜ Changed workingPlaces workingPlaces count (replicate workingPlaces nought) r
+        (λ j. numberAt (sideStore (now (significands .entry)) (now (exponents .entry))) (from + j)) ⌝ }
 {
     let zero = Kept::zero();
     let mut w = [zero; PLACES];

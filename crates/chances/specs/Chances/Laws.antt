@@ -12,10 +12,10 @@ use Rattle.steps.specs.Counts.{keptCount, is-count}
 use Rattle.steps.specs.Chances.{keptChance, keptChances}
 use Rattle.steps.specs.Exponents.{Ranged}
 use Rattle.steps.specs.Exponents.Laws.{ranged-operand}
-use Rattle.steps.specs.Numbers.{of-counts, of-chances}
+use Rattle.steps.specs.Numbers.{StepNumber, of-counts, is-chance, of-chances}
 use Rattle.working.specs.Working.{workingPlaces, Entries}
 use Rattle.working.specs.Working.Laws.{entries-more}
-use Rattle.chances.specs.Chances.{StepsReady, ChancesMade}
+use Rattle.chances.specs.Chances.{RowReady, StepsReady, ChancesMade}
 
 -- An entry of any working row.
 pub entry-operand : {n : ℕ} {row : List Kept} {f : ℕ → Kept} → Entries workingPlaces (suc n) row f → ((j : ℕ) → j ≤ n → Ranged (f j))
@@ -51,3 +51,15 @@ module _ {side : Side} {n j : ℕ} {row orders r : List Kept} (done : ChancesBel
 
   pub chances-all : j ≡ suc n → ChancesMade side n row r
   chances-all all = record { chances = rw all at (done .made) }
+
+-- The chances that step 4 makes are ready for a step whose numbers are among those of steps 4 to 6.
+unfoldable pub chances-ready : {side : Side} {n : ℕ} {row c : List Kept} {Number : (ℕ → Kept) → Kept → Type 0} (ready : StepsReady side n row) → ChancesMade side n row c
+    → ((x : Kept) → Number (keptChances side n (ready .entry)) x → StepNumber side n (ready .entry) x) → RowReady n c Number
+unfolding keptChances
+chances-ready {side} {n} ready made among = record {
+  assets = ready .assets;
+  entry = keptChances side n (ready .entry);
+  entries = made .chances _ (ready .entries);
+  entry-ranged = λ j l. ready .ranged (of-chances (is-chance j l));
+  ranged = λ number. ready .ranged (among _ number);
+}

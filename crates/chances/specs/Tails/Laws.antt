@@ -18,27 +18,27 @@ use Rattle.kept.specs.Whole.Laws.{whole-at-most}
 use Rattle.steps.specs.Chances.{keptTotal, keptChances, keptTail}
 use Rattle.steps.specs.Column.{unitsOfCertainty, inUnits, printedTail, printedRow}
 use Rattle.steps.specs.Exponents.Laws.{ranged-operand}
-use Rattle.steps.specs.Numbers.{is-chance, is-tail, of-chances, of-tails}
+use Rattle.steps.specs.Numbers.{TailNumber, is-tail, of-tails}
 use Rattle.working.specs.Working.{workingPlaces, Entries}
 use Rattle.working.specs.Working.Laws.{entries-more}
 use Rattle.working.specs.Slices.{entriesAfter}
 use Rattle.working.specs.Slices.Laws.{after-same}
-use Rattle.chances.specs.Chances.{StepsReady}
+use Rattle.chances.specs.Chances.{RowReady}
 use Rattle.chances.specs.Chances.Laws.{entry-operand}
-use Rattle.chances.specs.Tails.{Tails, TailsReady, TailsMade, Printable, TailsPrinted, Falling, differenceAt, ColumnReady}
+use Rattle.chances.specs.Tails.{Tails, TailsMade, Printable, TailsPrinted, Falling, differenceAt, ColumnReady}
 
 -- ---- tails
 
 -- The tails past n − i are stored, and the total is the first of them.
 pub record TailsPast (side : Side) (n i : ℕ) (chances : List Kept) (total : Kept) (tails : List Kept) : Type 0 where
-  pub ready : TailsReady side n chances
+  pub ready : RowReady n chances (TailNumber side n)
   pub within : i ≤ suc n
   pub places-are : length tails ≡ suc workingPlaces
   pub total-is : (c : ℕ → Kept) → Entries workingPlaces (suc n) chances c → total ≡ keptTotal side (λ m. c (n - m)) i
   pub tail : (c : ℕ → Kept) → Entries workingPlaces (suc n) chances c
       → (d : Kept) (k : ℕ) → n < k + i → k ≤ suc n → getD tails k d ≡ keptTail side n c k
 
-pub tails-none : {side : Side} {n : ℕ} {chances : List Kept} {zero : Kept} → TailsReady side n chances → zero ≡ nought
+pub tails-none : {side : Side} {n : ℕ} {chances : List Kept} {zero : Kept} → RowReady n chances (TailNumber side n) → zero ≡ nought
     → TailsPast side n 0 chances zero (replicate (suc workingPlaces) zero)
 unfolding keptTotal keptTail workingPlaces
 tails-none {n} {zero} ready none = record {
@@ -56,7 +56,7 @@ module _ {side : Side} {n i : ℕ} {chances : List Kept} {total : Kept} {tails :
     pub tail-operands : Operand total × Operand (getD chances (n - i) d)
     tail-operands = (
       rw (done .total-is _ (done .ready .entries)) (ranged-operand (done .ready .ranged (is-tail i (omega arith)))),
-      entry-operand (done .ready .entries) (done .ready .chance-ranged) d (n - i) (omega arith),
+      entry-operand (done .ready .entries) (done .ready .entry-ranged) d (n - i) (omega arith),
     )
 
     module _ {x : Kept} (sum : x ≡ roundedSum side total (getD chances (n - i) d)) where
@@ -136,18 +136,6 @@ module _ {n k : ℕ} {tails : List Kept} {printed : List ℕ} (done : PrintedBel
   printed-all all = record { printed-are = rw all at (done .made) }
 
 -- ---- the column of a row
-
--- The tails of the chances that step 4 makes.
-pub tails-ready : {side : Side} {n : ℕ} {row c : List Kept} (ready : StepsReady side n row)
-    → Entries workingPlaces (suc n) c (keptChances side n (ready .entry)) → TailsReady side n c
-unfolding keptChances
-tails-ready {side} {n} ready made = record {
-  assets = ready .assets;
-  chance = keptChances side n (ready .entry);
-  entries = made;
-  chance-ranged = λ j l. ready .ranged (of-chances (is-chance j l));
-  ranged = λ number. ready .ranged (of-tails number);
-}
 
 module _ {n : ℕ} {row : List Kept} (ready : ColumnReady n row) where
   abbrev chance : ℕ → Kept

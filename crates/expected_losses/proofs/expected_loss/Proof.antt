@@ -3,9 +3,10 @@
 use Prim.Native.Nat.{suc, _-_}
 use native.Mathlib.Omega.{arith}
 use Rattle.model.specs.Fraction.{whole}
+use Rattle.model.specs.Chances.Laws.{tranche-wide}
 use Rattle.steps.specs.Chances.{keptTotal}
 use Rattle.steps.specs.Inputs.{workingAssets}
-use Rattle.expected_losses.specs.Loss.Laws.{basis-points-word, LossBelow, product-operands, sum-operands, term-more, quotient-operands, loss-made}
+use Rattle.expected_losses.specs.Loss.Laws.{basis-points-word, LossBelow, total-operand, product-operands, sum-operands, term-more, loss-made}
 use Rattle.expected_losses.proofs.expected_loss.Statement.{statement}
 use Rattle.expected_losses.proofs.expected_loss.Tie as tie
 
@@ -33,7 +34,7 @@ expected-loss-spec =
     tie.close
     (tie.spec Inv-loop μ-loop
     (λ c κs. tt) (λ c. omega arith)
-    (λ c. record { ready = c .before .pre .0; units-are = c .before .pre .1; within = omega arith; terms = λ _ _. c .zero .ensures })
+    (λ c. record { ready = c .before .pre .0; units-are = c .before .pre .1 .0; within = omega arith; terms = λ _ _. c .zero .ensures })
     (λ c. omega arith) (λ c. omega arith) (λ c. omega arith) (λ c. omega arith)
     product-requires
     sum-requires
@@ -41,5 +42,5 @@ expected-loss-spec =
     loop-again
     (λ c. omega arith)
     (λ c. basis-points-word (omega arith) (omega arith))
-    (λ c κs. quotient-operands (c .before .before .loop .inv))
+    (λ c κs. (total-operand (c .before .before .loop .inv), tranche-wide (omega arith) (omega arith)))
     returns)

@@ -10,9 +10,7 @@ use Rattle.expected_losses.proofs.tranche_losses.Tie as tie
 
 each-loss-requires : tie.Need-each-loss-requires
 unfolding tranchePlaces
-each-loss-requires c κs =
-    let ready = c .before .before .pre in
-    each-ready ready (omega arith) (c .before .chances .ensures .chances _ (ready .low-ready .entries)) (c .chances2 .ensures .chances _ (ready .high-ready .entries))
+each-loss-requires c κs = each-ready (c .before .before .pre) (omega arith) (c .before .chances .ensures) (c .chances2 .ensures)
 
 returns : tie.Need-returns
 returns c = record {

@@ -19,13 +19,12 @@ use Rattle.model.specs.Fraction.{whole}
 use Rattle.model.specs.Number.{raise}
 use Rattle.model.specs.Number.Laws.{raised-minus}
 use Rattle.model.specs.Chances.{lossUnits}
-use Rattle.model.specs.Chances.Laws.{tranche-wide}
 use Rattle.kept.specs.declared.Kept.{Kept}
 use Rattle.kept.specs.declared.Side.{Side}
 use Rattle.kept.specs.declared.Side.the-variants.{Low, High}
 use Rattle.kept.specs.Rounding.{Operand, ofInteger, roundedProduct, roundedSum, roundedQuotient}
 use Rattle.kept.specs.Rounding.Exponents.{difference-back}
-use Rattle.steps.specs.Chances.{keptTotal, keptChances, keptTerm, keptLoss}
+use Rattle.steps.specs.Chances.{keptTotal, keptTerm, keptLoss}
 use Rattle.steps.specs.Chances.Laws.{units-either}
 use Rattle.steps.specs.Exponents.Laws.{ranged-operand}
 use Rattle.steps.specs.Inputs.{workingAssets, TrancheInRange}
@@ -33,11 +32,11 @@ use Rattle.steps.specs.declared.Tranche.{Tranche}
 use Rattle.steps.specs.Loss.{untouched}
 use Rattle.steps.specs.Tranches.{tranchePlaces, trancheAt, trancheLosses}
 use Rattle.steps.specs.Tranches.Laws.{losses-more}
-use Rattle.steps.specs.Numbers.{is-chance, is-units, is-term, is-total, of-chances, of-losses}
+use Rattle.steps.specs.Numbers.{is-units, is-term, is-total, of-losses}
 use Rattle.working.specs.Working.{workingPlaces, Entries}
 use Rattle.working.specs.Working.Laws.{entries-more}
-use Rattle.chances.specs.Chances.Laws.{entry-operand}
-use Rattle.chances.specs.Chances.{StepsReady}
+use Rattle.chances.specs.Chances.{ChancesMade}
+use Rattle.chances.specs.Chances.Laws.{entry-operand, chances-ready}
 use Rattle.expected_losses.specs.declared.Loss.{Loss}
 use Rattle.expected_losses.specs.declared.Loss.the-variants.{Untouched, Faint, Shown}
 use Rattle.expected_losses.specs.declared.TrancheLoss.{TrancheLoss}
@@ -125,7 +124,7 @@ pub record LossBelow (side : Side) (n : ℕ) (chances units : List Kept) (t : Tr
 
 module _
     {side : Side} {n : ℕ} {chances units : List Kept} {t : Tranche} {X : ℕ} {total : Kept} (done : LossBelow side n chances units t X total) where
-  total-operand : Operand total
+  pub total-operand : Operand total
   total-operand = rw (done .terms _ (done .ready .entries)) (ranged-operand (done .ready .ranged (is-total X (done .within))))
 
   -- The term of X defaults.
@@ -135,7 +134,7 @@ module _
 
     pub product-operands : Operand (getD chances X d) × Operand (getD units X d)
     product-operands = (
-      entry-operand (done .ready .entries) (done .ready .chance-ranged) d X l,
+      entry-operand (done .ready .entries) (done .ready .entry-ranged) d X l,
       rw units-is (ranged-operand (done .ready .ranged (is-units X l))),
     )
 
@@ -156,29 +155,10 @@ module _
         terms = λ c e. rw (sum, done .terms c e, term-is c e);
       })
 
-  pub quotient-operands : Operand total × (0 < (t .upper - t .lower) * n)
-  quotient-operands = (total-operand, tranche-wide (done .ready .not-empty) (done .ready .tranche .lower))
-
   pub loss-made : {r : Kept} → X ≡ suc n → ((wide : 0 < (t .upper - t .lower) * n) → r ≡ roundedQuotient side total ((t .upper - t .lower) * n) wide)
       → LossMade side n chances t r
   unfolding keptLoss
   loss-made all quotient = record { loss = λ c e wide. rw (quotient wide, done .terms c e, all) }
-
--- ---- from the entries of a row
-
--- The chances that step 4 makes.
-unfoldable pub loss-ready : {side : Side} {n : ℕ} {row c : List Kept} {t : Tranche} (ready : StepsReady side n row) → 0 < n → TrancheInRange (t .recovery) (t .lower) (t .upper)
-    → Entries workingPlaces (suc n) c (keptChances side n (ready .entry)) → LossReady side n c t
-unfolding keptChances
-loss-ready {side} {n} {t} ready not-empty tranche made = record {
-  assets = ready .assets;
-  not-empty = not-empty;
-  tranche = tranche;
-  chance = keptChances side n (ready .entry);
-  entries = made;
-  chance-ranged = λ j l. ready .ranged (of-chances (is-chance j l));
-  ranged = λ number. ready .ranged (of-losses (t .recovery) (t .lower) (t .upper) (tranche .upper) number);
-}
 
 -- ---- the losses of tranches, one after the other
 
@@ -225,10 +205,9 @@ module _ {n : ℕ} {low high : List Kept} {ts : List Tranche} {count i : ℕ} {l
   losses-all all = rw all at (done .made)
 
 -- From rows that are ready: low′ and high′ are the chances that step 4 makes of them.
-pub each-ready : {n : ℕ} {low high low′ high′ : List Kept} {ts : List Tranche} {count : ℕ} (ready : TranchesReady n low high ts count) → length ts ≡ tranchePlaces
-    → Entries workingPlaces (suc n) low′ (keptChances Low n (ready .low-ready .entry)) → Entries workingPlaces (suc n) high′ (keptChances High n (ready .high-ready .entry))
-    → EachReady n low′ high′ ts count
-unfolding loss-ready
+pub each-ready : {n : ℕ} {low high low′ high′ : List Kept} {ts : List Tranche} {count : ℕ} → TranchesReady n low high ts count → length ts ≡ tranchePlaces
+    → ChancesMade Low n low low′ → ChancesMade High n high high′ → EachReady n low′ high′ ts count
+unfolding chances-ready
 each-ready {ts} {count} ready as-many low high =
     let range : (i : ℕ) → i < count → TrancheInRange (trancheAt ts i .recovery) (trancheAt ts i .lower) (trancheAt ts i .upper) = λ i l.
     let asked : i < length (take count ts) = rw (length-take-le count ts (rw as-many (ready .places))) l in
@@ -236,8 +215,10 @@ each-ready {ts} {count} ready as-many low high =
     record {
       places = ready .places;
       ready = λ i l. record {
-        low-ready = loss-ready (ready .low-ready) (ready .not-empty) (range i l) low;
-        high-ready = loss-ready (ready .high-ready) (ready .not-empty) (range i l) high;
+        not-empty = ready .not-empty;
+        tranche = range i l;
+        low-ready = chances-ready (ready .low-ready) low (λ _. of-losses _ _ _ (range i l .upper));
+        high-ready = chances-ready (ready .high-ready) high (λ _. of-losses _ _ _ (range i l .upper));
         answerable = ready .answerable _ _ _ (range i l .upper);
       };
     }

@@ -1,9 +1,10 @@
 -- `store_refusal` meets its contract.
 -- Assumes nothing.
 use mathlib.Core.Path.{refl}
+use mathlib.Core.Bool.{or-false}
 use borrow.Author.Needs.{needs}
 use Rattle.grounds.specs.Grounds.{firstGround, someShorter, storeGround, fourLengths}
-use Rattle.grounds.specs.Grounds.Laws.{first-last, or-false}
+use Rattle.grounds.specs.Grounds.Laws.{first-last}
 use Rattle.grounds.proofs.store_refusal.Statement.{statement}
 use Rattle.grounds.proofs.store_refusal.Tie as tie
 

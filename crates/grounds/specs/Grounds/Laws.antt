@@ -60,10 +60,6 @@ unfolding firstOf
 first-assoc zero b c = refl
 first-assoc (suc a) b c = refl
 
-pub or-false : (t : Bool) → (t || false) ≡ t
-or-false true = refl
-or-false false = refl
-
 -- ---- two lists of grounds
 
 first-append : (a b : List Ground) → firstOf (firstGround a) (firstGround b) ≡ firstGround (a ++ b)

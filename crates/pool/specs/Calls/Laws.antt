@@ -2,8 +2,9 @@
 -- what else holds of that outcome by other refusals and at another distance.
 -- Assumes nothing.
 use Prim.Native.Nat.{ℕ, suc, _<_}
-use mathlib.Core.Path.{_≡_, refl, sym, ap, _∙_}
+use mathlib.Core.Path.{_≡_, refl, ap, _∙_}
 use mathlib.Core.List.{List}
+use lib.Dec.{lit<}
 use lib.ListN.{take, replicate}
 use native.Mathlib.Nat.{le-refl}
 use Rattle.model.specs.Fraction.{Fraction}
@@ -31,12 +32,12 @@ use Rattle.chances.specs.Tails.{ColumnReady}
 use Rattle.expected_losses.specs.Loss.{OnSides, TranchesReady}
 use Rattle.chances.specs.Chances.Ready.{column-ready}
 use Rattle.expected_losses.specs.Loss.Ready.{tranches-ready}
-use Rattle.grounds.specs.Grounds.{firstGround, PoolAccepted, TranchesAccepted}
-use Rattle.grounds.specs.Grounds.Laws.{loss-grounds-within}
+use Rattle.grounds.specs.Grounds.{firstGround, columnGrounds, TranchesAccepted}
+use Rattle.grounds.specs.Grounds.Laws.{entries-accepted, loss-accepted, loss-grounds-within}
 use Rattle.store.specs.declared.Pool.{Pool}
 use Rattle.store.specs.Stores.{Store}
-use Rattle.store.specs.Calls.Laws.{store-left, store-untouched}
-use Rattle.pool.specs.Calls.{PrintsRow, RepliesLosses, Prints, lossRefusal, Replies}
+use Rattle.store.specs.Calls.Laws.{fills-untouched, fills-once, fills-apart}
+use Rattle.pool.specs.Calls.{PrintsRow, RepliesLosses, columnRefusal, Prints, lossRefusal, Replies}
 
 -- ---- a row of chances in general
 
@@ -72,14 +73,6 @@ module _ {r : Chances} {c : Side → ℕ → Kept} where
       → RepliesLosses f r c ts refusal losses → RepliesLosses g r c ts′ refusal′ losses′ → losses ≡ losses′
   reply-once alike same one other = rw (one .losses-are, other .losses-are, same, alike) refl
 
-  -- The same losses at another distance.
-  pub reply-apart : {f g refusal : ℕ} {ts : List Tranche} {losses : List LossAnswer}
-      → (refusal ≡ 0 → losses ≡ trancheLosses (r .assets) c ts → HoldsLosses g r c ts losses) → RepliesLosses f r c ts refusal losses → RepliesLosses g r c ts refusal losses
-  reply-apart {ts} {losses} holds replies = record {
-    losses-are = replies .losses-are;
-    holds-losses = λ none. holds none (losses-accepted _ _ _ none (replies .losses-are));
-  }
-
 -- ---- for the pools of the calls
 
 module _ {n p ρ : ℕ} (range : InRange largestPool n p ρ) where
@@ -96,34 +89,33 @@ module _ {n p ρ : ℕ} (range : InRange largestPool n p ρ) where
 
 -- ---- a refused call
 
-module _ {g : ℕ → ℕ} {pool : Pool} {before : Store} where
-  pub prints-untouched : {refuses : Pool → Store → List ℕ → ℕ} {units : List ℕ} {refusal : ℕ} → refusal ≡ refuses pool before units → (refusal ≡ 0 → ⊥)
+module _ {g : ℕ → ℕ} {pool : Pool} {before : Store} {refusal : ℕ} (some : refusal ≡ 0 → ⊥) where
+  pub prints-untouched : {refuses : Pool → Store → List ℕ → ℕ} {units : List ℕ} → refusal ≡ refuses pool before units
       → Prints refuses g pool before before units units refusal
-  prints-untouched is some = record { refusal-is = is; leaves = store-untouched _ some refl; prints = row-untouched some }
+  prints-untouched is = record { fills = fills-untouched some is; prints = row-untouched some }
 
-  pub replies-untouched : {refuses : Pool → List Tranche → ℕ → Store → ℕ} {tranches : List Tranche} {count refusal : ℕ} {losses : List LossAnswer}
-      → refusal ≡ refuses pool tranches count before → (refusal ≡ 0 → ⊥) → losses ≡ replicate tranchePlaces untouched
-      → Replies refuses g pool tranches count before before refusal losses
-  replies-untouched is some are = record { refusal-is = is; leaves = store-untouched _ some refl; replies = reply-refused some are }
+  pub replies-untouched : {refuses : Pool → List Tranche → ℕ → Store → ℕ} {tranches : List Tranche} {count : ℕ} {losses : List LossAnswer}
+      → refusal ≡ refuses pool tranches count before → losses ≡ replicate tranchePlaces untouched → Replies refuses g pool tranches count before before refusal losses
+  replies-untouched is are = record { fills = fills-untouched some is; replies = reply-refused some are }
 
 -- ---- one outcome
 
 -- What meets the contract for the same inputs is the same, at whatever distances.
-module _ {f g : ℕ → ℕ} {pool : Pool} {before after after′ : Store} where
-  pub prints-once : {refuses : Pool → Store → List ℕ → ℕ} {units left left′ : List ℕ} {refusal refusal′ : ℕ} → Prints refuses f pool before after units left refusal
+module _ {f g : ℕ → ℕ} {pool : Pool} {before after after′ : Store} {refusal refusal′ : ℕ} where
+  pub prints-once : {refuses : Pool → Store → List ℕ → ℕ} {units left left′ : List ℕ} → Prints refuses f pool before after units left refusal
       → Prints refuses g pool before after′ units left′ refusal′ → (refusal ≡ refusal′) × (after ≡ after′) × (left ≡ left′)
   prints-once one other =
-      let same = one .refusal-is ∙ sym (other .refusal-is) in
-      (same, rw (one .leaves .store-is, other .leaves .store-is, same) refl, row-once same (one .prints) (other .prints))
+      let same = fills-once refl (one .fills) (other .fills) in
+      (same .0, same .1, row-once (same .0) (one .prints) (other .prints))
 
   -- Whatever records stand past the count, where the list that refuses does not look at them.
-  pub replies-once : {refuses : Pool → List Tranche → ℕ → Store → ℕ} {tranches tranches′ : List Tranche} {count : ℕ} {refusal refusal′ : ℕ}
-      {losses losses′ : List LossAnswer} → take count tranches ≡ take count tranches′ → refuses pool tranches count before ≡ refuses pool tranches′ count before
+  pub replies-once : {refuses : Pool → List Tranche → ℕ → Store → ℕ} {tranches tranches′ : List Tranche} {count : ℕ} {losses losses′ : List LossAnswer}
+      → take count tranches ≡ take count tranches′ → refuses pool tranches count before ≡ refuses pool tranches′ count before
       → Replies refuses f pool tranches count before after refusal losses → Replies refuses g pool tranches′ count before after′ refusal′ losses′
       → (refusal ≡ refusal′) × (after ≡ after′) × (losses ≡ losses′)
   replies-once alike alone one other =
-      let same = one .refusal-is ∙ alone ∙ sym (other .refusal-is) in
-      (same, rw (one .leaves .store-is, other .leaves .store-is, same) refl, reply-once alike same (one .replies) (other .replies))
+      let same = fills-once alone (one .fills) (other .fills) in
+      (same .0, same .1, reply-once alike (same .0) (one .replies) (other .replies))
 
 -- The records past the count play no part.
 pub replies-alone : {f g : ℕ → ℕ} {pool : Pool} {before after after′ : Store} {tranches tranches′ : List Tranche} {count refusal refusal′ : ℕ}
@@ -132,29 +124,29 @@ pub replies-alone : {f g : ℕ → ℕ} {pool : Pool} {before after after′ : S
 unfolding lossRefusal
 replies-alone alike = replies-once alike (ap firstGround (loss-grounds-within _ _ _ _ _ _ _ _ alike))
 
--- ---- the same outcome by another list that gives the same number, at another distance
+-- ---- what the library's calls leave, by another list that gives the same number, at another distance
 
-module _ {f g : ℕ → ℕ} {pool : Pool} {before after : Store} where
-  pub prints-apart : {refuses refuses′ : Pool → Store → List ℕ → ℕ} {units units′ : List ℕ} {refusal : ℕ} → refuses′ pool before units ≡ refuses pool before units
-      → (refuses pool before units ≡ 0 → InRange largestPool (pool .assets) (pool .probability) (pool .correlation) × BudgetsFor g (pool .assets))
-      → Prints refuses f pool before after units units′ refusal → Prints refuses′ g pool before after units units′ refusal
-  prints-apart same given prints = record {
-    refusal-is = prints .refusal-is ∙ sym same;
-    leaves = store-left _ (prints .leaves .store-is) (λ none. given (sym (prints .refusal-is) ∙ none));
-    prints = prints .prints;
-  }
+module _ {f g : ℕ → ℕ} {pool : Pool} {before after : Store} {refusal : ℕ} (budgets : BudgetsFor g (pool .assets)) where
+  pub prints-apart : {refuses : Pool → Store → List ℕ → ℕ} {units units′ : List ℕ} → columnRefusal pool before units ≡ refuses pool before units
+      → Prints columnRefusal f pool before after units units′ refusal → Prints refuses g pool before after units units′ refusal
+  unfolding columnRefusal columnGrounds
+  prints-apart same prints =
+      let accepted = entries-accepted 8 largestPool _ _ _ _ _ (lit< tt) (prints .fills .refusal-is) in
+      record { fills = fills-apart (λ none. (accepted none .fill .pool .range, budgets)) same (prints .fills); prints = prints .prints }
 
-  pub replies-apart : {refuses refuses′ : Pool → List Tranche → ℕ → Store → ℕ} {tranches : List Tranche} {count refusal : ℕ} {losses : List LossAnswer}
-      → refuses′ pool tranches count before ≡ refuses pool tranches count before
-      → (refuses pool tranches count before ≡ 0 → PoolAccepted largestPool (pool .assets) (pool .probability) (pool .correlation) × TranchesAccepted tranches count
-      × BudgetsFor g (pool .assets))
-      → Replies refuses f pool tranches count before after refusal losses → Replies refuses′ g pool tranches count before after refusal losses
-  unfolding defaults
-  replies-apart {tranches} {count} {refusal} same given replies =
-      let accepted : refusal ≡ 0 → PoolAccepted largestPool (pool .assets) (pool .probability) (pool .correlation) × TranchesAccepted tranches count
-      × BudgetsFor g (pool .assets) = λ none. given (sym (replies .refusal-is) ∙ none) in
+  pub replies-apart : {refuses : Pool → List Tranche → ℕ → Store → ℕ} {tranches : List Tranche} {count : ℕ} {losses : List LossAnswer}
+      → lossRefusal pool tranches count before ≡ refuses pool tranches count before
+      → Replies lossRefusal f pool tranches count before after refusal losses → Replies refuses g pool tranches count before after refusal losses
+  unfolding defaults lossRefusal
+  replies-apart same replies =
+      let accepted = loss-accepted largestPool _ _ _ _ _ _ (replies .fills .refusal-is) in
+      let are = replies .replies .losses-are in
       record {
-        refusal-is = replies .refusal-is ∙ sym same;
-        leaves = store-left _ (replies .leaves .store-is) (λ none. (accepted none .0 .range, accepted none .2));
-        replies = reply-apart (λ none are. answers (accepted none .0 .range) (accepted none .2) (accepted none .0 .not-empty) (accepted none .1 .tranches) are) (replies .replies);
+        fills = fills-apart (λ none. (accepted none .fill .pool .range, budgets)) same (replies .fills);
+        replies = record {
+          losses-are = are;
+          holds-losses = λ none.
+              let pool = accepted none .fill .pool in
+              answers (pool .range) budgets (pool .not-empty) (accepted none .tranches .tranches) (losses-accepted _ _ _ none are);
+        };
       }

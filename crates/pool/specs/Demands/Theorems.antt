@@ -1,13 +1,15 @@
 -- The contract of each call implies what is demanded of it.
 -- Assumes nothing.
-use Prim.Native.Nat.{ℕ, zero, suc, _+_, _-_, _*_, _/_, _≤_, _<_}
+use Prim.Native.Nat.{ℕ, suc, _+_, _-_, _*_, _/_, _≤_, _<_}
 use mathlib.Core.Path.{_≡_, refl, sym, ap, subst, _∙_}
 use mathlib.Core.Logic.{_⊎_, inl, inr}
 use mathlib.Core.List.{List}
 use native.Mathlib.Omega.{arith}
-use lib.Dec.{lit≤}
+use lib.Dec.{lit<, lit≤}
 use lib.ListN.{length, getD, take, drop, length-take, length-map, getD-replicate, List·getD-map}
+use lib.IntN.{ℤ}
 use lib.Seq.{getD-take}
+use lib.Ieee.{Float}
 use Rattle.model.specs.Number.{triangle}
 use Rattle.model.specs.Number.Laws.{triangle-closed}
 use Rattle.model.specs.Fraction.{Fraction, Same, AtMost, integer}
@@ -17,8 +19,8 @@ use Rattle.model.specs.CorrelatedBinomial.{defaults}
 use Rattle.kept.specs.declared.Kept.{Kept}
 use Rattle.kept.specs.declared.Side.{Side}
 use Rattle.kept.specs.declared.Side.the-variants.{Low, High}
-use Rattle.kept.specs.Rounding.{value}
-use Rattle.kept.specs.Binary64.{leastShown}
+use Rattle.kept.specs.Rounding.{value, nought}
+use Rattle.kept.specs.Binary64.{leastShown, IsBinary64}
 use Rattle.steps.specs.CorrelatedBinomial.Rows.{keptRow}
 use Rattle.steps.specs.Column.{unitsOfCertainty, exactUnits, half, printedTail, tenths}
 use Rattle.steps.specs.Column.Laws.{in-units-at-most, in-units-next, within-weaken}
@@ -28,27 +30,28 @@ use Rattle.steps.specs.Loss.{untouched, raisedToShown, Says}
 use Rattle.steps.specs.Tranches.{tranchePlaces}
 use Rattle.steps.specs.Tranches.Laws.{answer-length, losses-untouched}
 use Rattle.steps.specs.Loss.Laws.{raised-greater, least-shown-value}
-use Rattle.steps.specs.Inputs.{largestPool, finePool, distanceFor, tenthsFor}
+use Rattle.steps.specs.Inputs.{upTo, largestPool, finePool, distanceFor, tenthsFor}
 use Rattle.steps.specs.Inputs.Laws.{up-to-both}
 use Rattle.steps.specs.Promises.{HoldsSteps, HoldsColumn, HoldsLoss}
 use Rattle.steps.specs.Chances.{keptTail}
 use Rattle.expected_losses.specs.Loss.{lossOf, lossesIn}
 use Rattle.expected_losses.specs.Loss.Laws.{one-loss}
 use Rattle.working.specs.Slices.{overwritten, entriesAfter, numberAt}
-use Rattle.working.specs.Slices.Laws.{overwritten-later, entries-kept, entries-later}
+use Rattle.working.specs.Slices.Laws.{overwritten-length, overwritten-later, entries-kept, entries-length, entries-later}
 use Rattle.rows.specs.Store.{filledSide, stored}
 use Rattle.rows.specs.Store.Laws.{stored-length}
-use Rattle.grounds.specs.Grounds.{Ground, firstGround}
-use Rattle.grounds.specs.Grounds.Laws.{row-accepted}
+use Rattle.grounds.specs.Grounds.{Ground, firstGround, columnGrounds, EachAtLeast, EntriesAccepted}
+use Rattle.grounds.specs.Grounds.Laws.{fill-accepted, row-accepted, entries-accepted, loss-accepted}
 use Rattle.store.specs.declared.Pool.{Pool}
 use Rattle.expected_losses.specs.declared.Loss.{Loss}
 use Rattle.expected_losses.specs.declared.Loss.the-variants.{Untouched, Faint, Shown}
 use Rattle.expected_losses.specs.declared.TrancheLoss.{TrancheLoss}
 use Rattle.expected_losses.specs.declared.Answer.{Answer}
-use Rattle.store.specs.Stores.{Store, lengths, sideOf, place, storeAfter}
-use Rattle.store.specs.Calls.{LeavesStore, Fills, fillRefusal, HandsRow, rowRefusal}
+use Rattle.store.specs.Stores.{Store, store, lengths, sideOf, place, storeAfter}
+use Rattle.store.specs.Stores.Laws.{store-untouched}
+use Rattle.store.specs.Calls.{Fills, fillRefusal, HandsRow, rowRefusal}
 use Rattle.pool.specs.Calls.{columnRefusal, Prints, lossRefusal, RepliesLosses, Replies}
-use Rattle.pool.specs.Demands.{partsFor, BoundDemands, StepsDemands, oneHalf, PrintedDemands, oneAndAHalf, unitsOff, Demand3Column, Slices, significandsOn, numberOn, from, TableDemands, StoreDemands, edge, LossDemands, TrancheDemands, lossAt, LossesDemands}
+use Rattle.pool.specs.Demands.{keptZero, partsFor, BoundDemands, StepsDemands, oneHalf, PrintedDemands, oneAndAHalf, unitsOff, Demand3Column, Slices, significandsOn, lent, numberOn, lengthsOf, from, TableDemands, StoreDemands, edge, BitsDemands, LossDemands, TrancheDemands, lossAt, LossesDemands}
 use Rattle.pool.specs.Demands.{FillDemands, RowDemands, EntriesDemands, ColumnDemandsBy, ColumnDemands, TranchesDemandsBy, TranchesDemands}
 
 -- The four slices of a store.
@@ -60,9 +63,16 @@ slices s = record {
   highExponents = s .high .exponents;
 }
 
+-- They are lent in the order in which a contract takes them.
+pub slices-lent : (lowSignificands highSignificands : List ℕ) (lowExponents highExponents : List ℤ)
+    → slices (store lowSignificands highSignificands lowExponents highExponents) ≡ lent lowSignificands highSignificands lowExponents highExponents
+unfolding store lent
+slices-lent ls hs le he = refl
+
 -- ---- the store
 
 pub bounds-meet : {parts : ℕ} {low high : Kept} {v : Fraction} → Enclosed parts low high v → BoundDemands parts low high v
+unfolding nought keptZero
 bounds-meet enclosed = record {
   two = record { from-below = enclosed .from-below; from-above = enclosed .from-above };
   three = record { apart = enclosed .distance; of-zero = enclosed .of-zero };
@@ -84,54 +94,74 @@ later-filled side n p ρ field old =
     let places : length (stored side p ρ field n) ≡ (n + 1) * (n + 2) / 2 = omega (arith, stored-length side p ρ field n, triangle-closed (suc n)) in
     overwritten-later (stored side p ρ field n) old places
 
-module _ {parts : ℕ → ℕ} {pool : Pool} {before after : Store} {refusal : ℕ} (leaves : LeavesStore parts pool before after refusal) where
+-- Such a slice is as long as it was.
+length-filled : {A : Type 0} (side : Side) (n p ρ : ℕ) (field : Kept → A) (old : List A) → triangle (suc n) ≤ length old
+    → length (overwritten (stored side p ρ field n) old) ≡ length old
+length-filled side n p ρ field old room = overwritten-length (stored side p ρ field n) old (omega (arith, stored-length side p ρ field n))
+
+module _ {number : ℕ} {parts : ℕ → ℕ} {pool : Pool} {before after : Store} {refusal : ℕ} (fills : Fills number parts pool before after refusal) where
   -- A refused call leaves the store as it was.
   store-kept : (refusal ≡ 0 → ⊥) → after ≡ before
-  unfolding storeAfter
-  store-kept some = by-number refusal leaves some
-    where
-      by-number : (r : ℕ) → LeavesStore parts pool before after r → (r ≡ 0 → ⊥) → after ≡ before
-      by-number zero leaves some = absurd (some refl)
-      by-number (suc r) leaves some = leaves .store-is
+  store-kept some = fills .store-is ∙ sym (store-untouched _ _ _ refusal before some)
 
   module _ (none : refusal ≡ 0) where
     made-on : (side : Side) (j k : ℕ) → j ≤ k → k ≤ pool .assets
         → numberOn side (slices after) (k * (k + 1) / 2 + j) ≡ keptRow side (pool .probability) (pool .correlation) k j
     unfolding sideOf numberAt place
-    made-on Low = leaves .holds none .made Low
-    made-on High = leaves .holds none .made High
+    made-on Low = fills .holds none .made Low
+    made-on High = fills .holds none .made High
 
     table-meets : TableDemands pool parts (slices after)
     unfolding numberAt place defaults
     table-meets = record {
       made = made-on;
-      entries = λ j k l m. bounds-meet (leaves .holds none .enclosed j k l m);
-      steps = steps-meet (leaves .steps-hold none);
+      entries = λ j k l m. bounds-meet (fills .holds none .enclosed j k l m);
+      steps = steps-meet (fills .steps-hold none);
     }
+
+    abbrev filled-is : Type 0
+    filled-is = after ≡ storeAfter (pool .assets) (pool .probability) (pool .correlation) 0 before
+
+    lengths-meet : EachAtLeast (triangle (suc (pool .assets))) (lengths before) → lengthsOf (slices after) ≡ lengthsOf (slices before)
+    unfolding storeAfter filledSide lengths
+    lengths-meet room =
+        let is : filled-is = rw none at (fills .store-is) in
+        rw (
+          is,
+          length-filled Low (pool .assets) (pool .probability) (pool .correlation) (λ x. x .significand) (before .low .significands) (room .0),
+          length-filled High (pool .assets) (pool .probability) (pool .correlation) (λ x. x .significand) (before .high .significands) (room .1 .0),
+          length-filled Low (pool .assets) (pool .probability) (pool .correlation) (λ x. x .exponent) (before .low .exponents) (room .1 .1 .0),
+          length-filled High (pool .assets) (pool .probability) (pool .correlation) (λ x. x .exponent) (before .high .exponents) (room .1 .1 .1 .0),
+        ) refl
 
     later-meets : let places = (pool .assets + 1) * (pool .assets + 2) / 2 in from places (slices after) ≡ from places (slices before)
     unfolding storeAfter filledSide
     later-meets =
-        let is : after ≡ storeAfter (pool .assets) (pool .probability) (pool .correlation) 0 before = rw none at (leaves .store-is) in
+        let is : filled-is = rw none at (fills .store-is) in
         rw is (simp later-filled refl)
 
-  store-meets : StoreDemands pool parts (slices before) (slices after) refusal
-  store-meets = record { table = table-meets; later = later-meets }
+  -- An accepted call has room for the store.
+  store-meets : (refusal ≡ 0 → EachAtLeast (triangle (suc (pool .assets))) (lengths before)) → StoreDemands pool parts (slices before) (slices after) refusal
+  store-meets room = record { lengths = λ none. lengths-meet none (room none); table = table-meets; later = later-meets }
 
   -- With a slice beside the store, whatever grounds the call checks and whatever entries it writes.
-  pub entries-meet : {A : Type 0} {grounds : List Ground} (f : ℕ → A) (old : List A) {new : List A} → refusal ≡ firstGround grounds
+  pub entries-meet : {A : Type 0} {grounds : List Ground} {most : ℕ} (f : ℕ → A) (old : List A) {new : List A} → number ≡ firstGround grounds
+      → (refusal ≡ 0 → EntriesAccepted most (pool .assets) (pool .probability) (pool .correlation) (lengths before) (length old))
       → new ≡ entriesAfter (pool .assets) f refusal old → EntriesDemands pool parts grounds (slices before) (slices after) old new refusal
-  entries-meet f old is entries = record {
-    one = record { number = is; untouched = λ some. rw (store-kept some, entries-kept (pool .assets) f old entries some) refl };
-    store = store-meets;
+  entries-meet f old is accepted entries = record {
+    one = record { number = fills .refusal-is ∙ is; untouched = λ some. rw (store-kept some, entries-kept (pool .assets) f old entries some) refl };
+    store = store-meets (λ none. accepted none .fill .store);
+    entries-length = λ none. entries-length (pool .assets) f old entries none (accepted none .entries);
     later-entries = entries-later (pool .assets) f old entries;
   }
 
-pub fill-meets : {pool : Pool} {before after : Store} {refusal : ℕ} → Fills pool before after refusal → FillDemands pool (slices before) (slices after) refusal
-unfolding fillRefusal lengths largestPool finePool distanceFor partsFor
-fill-meets fills =
-    let leaves = fills .leaves in
-    record { one = record { number = fills .refusal-is; untouched = λ some. ap slices (store-kept leaves some) }; store = store-meets leaves }
+pub fill-meets : {pool : Pool} {before after : Store} {refusal : ℕ} → Fills (fillRefusal pool before) distanceFor pool before after refusal
+    → FillDemands pool (slices before) (slices after) refusal
+unfolding fillRefusal lengths largestPool upTo finePool distanceFor partsFor
+fill-meets fills = record {
+  one = record { number = fills .refusal-is; untouched = λ some. ap slices (store-kept fills some) };
+  store = store-meets fills (λ none. fill-accepted _ _ _ _ _ (fills .refusal-is) none .store);
+}
 
 -- ---- the row
 
@@ -166,7 +196,7 @@ printed-meet n low = record {
 
 -- 1.5 units, or 2.
 off-within : (n : ℕ) → AtMost (tenths (tenthsFor n)) (unitsOff n)
-unfolding tenths tenthsFor finePool unitsOff oneAndAHalf integer
+unfolding tenths tenthsFor upTo finePool unitsOff oneAndAHalf integer
 off-within n = up-to-both (λ t off. AtMost (tenths t) off) 64 n (λ _. record { cross = lit≤ tt }) (λ _. record { cross = lit≤ tt })
 
 -- The column of any row.
@@ -176,6 +206,7 @@ unfolding unitsOfCertainty exactUnits
 rows-meet {r} low holds = record {
   printed-is = printed-meet (r .assets) low;
   difference = holds .difference;
+  last = holds .last;
   total = holds .total;
   not-above = λ k l. within-weaken (off-within (r .assets)) (holds .near k l) .not-above;
   not-below = λ k l. within-weaken (off-within (r .assets)) (holds .near k l) .not-below;
@@ -184,16 +215,19 @@ rows-meet {r} low holds = record {
 module _ {pool : Pool} {before after : Store} {units units′ : List ℕ} {refusal : ℕ} where
   -- Whatever list refuses, at any distances.
   pub column-meets-by : {refuses : Pool → Store → List ℕ → ℕ} {parts : ℕ → ℕ} {grounds : List Ground} → Prints refuses parts pool before after units units′ refusal
-      → refuses pool before units ≡ firstGround grounds → ColumnDemandsBy pool parts grounds (slices before) (slices after) units units′ refusal
-  unfolding defaults
-  column-meets-by prints is = record {
-    leaves = entries-meet (prints .leaves) _ _ (prints .refusal-is ∙ is) (prints .prints .units-are);
+      → refuses pool before units ≡ firstGround grounds → (refusal ≡ 0 → columnRefusal pool before units ≡ 0)
+      → ColumnDemandsBy pool parts grounds (slices before) (slices after) units units′ refusal
+  unfolding defaults columnRefusal columnGrounds
+  column-meets-by prints is by-library = record {
+    leaves =
+        entries-meet (prints .fills) _ _ is (λ none. entries-accepted 8 largestPool _ _ _ _ _ (lit< tt) refl (by-library none))
+        (prints .prints .units-are);
     column = λ none. rows-meet _ (prints .prints .holds-column none);
   }
 
   pub column-meets : Prints columnRefusal distanceFor pool before after units units′ refusal → ColumnDemands pool (slices before) (slices after) units units′ refusal
-  unfolding columnRefusal lengths largestPool finePool distanceFor partsFor
-  column-meets prints = column-meets-by prints refl
+  unfolding columnRefusal lengths largestPool upTo finePool distanceFor partsFor
+  column-meets prints = column-meets-by prints refl (λ none. sym (prints .fills .refusal-is) ∙ none)
 
 -- ---- the loss
 
@@ -204,20 +238,23 @@ either-of x = elim (raised-greater x .2) [
   | inr is ↦ inr (rw is least-shown-value)
 ]
 
+bits-meet : {x : Kept} {number : Float} → IsBinary64 x number → BitsDemands x number
+bits-meet is = record { exactly = is .exact; sign = is .sign; exponent-field = is .exponent-field; fraction-field = is .fraction-field }
+
 loss-meets : (parts : ℕ) (low high : Kept) (v : Fraction) (loss : Loss) → Says parts low high v (lossOf loss) → LossDemands low high loss
-unfolding lossOf leastShown edge
+unfolding lossOf leastShown edge nought keptZero
 loss-meets parts low high v Untouched says = (says .low-zero, says .high-zero)
 loss-meets parts low high v (Faint number) says = record {
   low-below = says .low-below;
   high-not-zero = says .high-not-zero;
-  greater = value (raisedToShown high);
-  number-is = says .is .exact;
+  greater = raisedToShown high;
+  number-is = bits-meet (says .is);
   from-high = raised-greater high .0;
   from-edge = says .from-least;
   either = either-of high;
 }
 loss-meets parts low high v (Shown bounds) says =
-    record { low-not-below = says .low-not-below; lower-is = says .lower-is .exact; upper-is = says .upper-is .exact }
+    record { low-not-below = says .low-not-below; lower-is = bits-meet (says .lower-is); upper-is = bits-meet (says .upper-is) }
 
 -- What stands at a place of the answer, and what the contract says of it.
 at-place : (losses : List TrancheLoss) (i : ℕ) → getD (lossesIn losses) i untouched ≡ lossOf (getD losses i (record { loss = Untouched }) .loss)
@@ -256,14 +293,16 @@ module _ {pool : Pool} {tranches : List Tranche} {count : ℕ} {before after : S
   -- Whatever list refuses, at any distances.
   pub tranches-meet-by : {refuses : Pool → List Tranche → ℕ → Store → ℕ} {parts : ℕ → ℕ} {grounds : List Ground} → length tranches ≡ 8
       → Replies refuses parts pool tranches count before after (answer .refusal) (lossesIn (answer .losses))
-      → refuses pool tranches count before ≡ firstGround grounds → TranchesDemandsBy pool tranches count parts grounds (slices before) (slices after) answer
-  tranches-meet-by eight replies first = record {
-    one = record { number = replies .refusal-is ∙ first; untouched = λ some. ap slices (store-kept (replies .leaves) some) };
-    store = store-meets (replies .leaves);
+      → refuses pool tranches count before ≡ firstGround grounds → (answer .refusal ≡ 0 → lossRefusal pool tranches count before ≡ 0)
+      → TranchesDemandsBy pool tranches count parts grounds (slices before) (slices after) answer
+  unfolding lossRefusal
+  tranches-meet-by eight replies first by-library = record {
+    one = record { number = replies .fills .refusal-is ∙ first; untouched = λ some. ap slices (store-kept (replies .fills) some) };
+    store = store-meets (replies .fills) (λ none. loss-accepted largestPool _ _ _ _ _ _ refl (by-library none) .fill .store);
     losses = losses-meet answer eight (replies .replies);
   }
 
   pub tranches-meet : length tranches ≡ 8 → Replies lossRefusal distanceFor pool tranches count before after (answer .refusal) (lossesIn (answer .losses))
       → TranchesDemands pool tranches count (slices before) (slices after) answer
-  unfolding lossRefusal lengths largestPool finePool distanceFor partsFor
-  tranches-meet eight replies = tranches-meet-by eight replies refl
+  unfolding lossRefusal lengths largestPool upTo finePool distanceFor partsFor
+  tranches-meet eight replies = tranches-meet-by eight replies refl (λ none. sym (replies .fills .refusal-is) ∙ none)

@@ -43,7 +43,7 @@ pub answered : {pool : Pool} {before after : Store} {units units′ : List ℕ} 
     → PoolAccepted reportPool (pool .assets) (pool .probability) (pool .correlation) → EachAtLeast (triangle (suc reportPool)) (lengths before)
     → reportPool < length units → refusal ≡ 0
 unfolding columnRefusal
-answered prints pool store column = prints .refusal-is ∙ column-answered _ _ _ _ _ _ _ (report-accepted pool) (pool .range .assets) store column
+answered prints pool store column = prints .fills .refusal-is ∙ column-answered _ _ _ _ _ _ _ (report-accepted pool) (pool .range .assets) store column
 
 module _ {n p ρ : ℕ} where
   pub refused-answer : {refusal : ℕ} → refusal ≡ firstGround (poolGrounds reportPool n p ρ) → (refusal ≡ 0 → ⊥) → AnswersPool n p ρ (refusedText refusal)

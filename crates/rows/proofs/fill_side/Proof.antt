@@ -68,7 +68,7 @@ returns c =
     let stored = end .before .before in
     let one = stored .before .before .before .before .before .before in
     let first = rw (one .one .ensures) at (stored .before .before .before .put-number .ensures) in
-    filling-all filling (call stored .pre) first (last end) (row-read row (last end) (c .read-row .ensures))
+    filling-all filling (call stored .pre) first (last end) (row-read row (last end) (c .read-row .ensures .new))
 
 pub fill-side-spec : {M : Type 1} → statement M
 unfolding workingPlaces workingAssets

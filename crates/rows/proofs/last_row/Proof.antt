@@ -84,4 +84,4 @@ last-row-spec =
     loop-again
     (λ c. omega arith) (λ c. omega arith) (λ c. omega arith)
     (λ c κs. let end = c .before .before in row-readable (end .before .loop .inv .0) (last end))
-    (λ c. let end = c .before .before .before in row-read (end .before .loop .inv .0) (last end) (c .read-row .ensures)))
+    (λ c. let end = c .before .before .before in row-read (end .before .loop .inv .0) (last end) (c .read-row .ensures .new)))

@@ -31,7 +31,7 @@ abbrev μ-loop : tie.MeasureT-loop
 loop-holds : tie.Need-loop-holds Inv-loop2 μ-loop2 Inv-loop μ-loop
 unfolding passed
 loop-holds c =
-    (record { entries = λ f standing. entries-same (rw add-one at (c .read-row .ensures)) (standing .number) }, omega arith)
+    (record { entries = λ f standing. entries-same (rw add-one at (c .read-row .ensures .new)) (standing .number) }, omega arith)
 
 loop2-again : tie.Need-loop2-again Inv-loop2 μ-loop2 Inv-loop μ-loop
 unfolding nought

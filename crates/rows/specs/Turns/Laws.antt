@@ -21,8 +21,8 @@ use Rattle.steps.specs.CorrelatedBinomial.Theorems.{exponents}
 use Rattle.steps.specs.CorrelatedBinomial.Rows.{constant, keptConditional, keptJoint, keptPower, keptWeight, keptPassStep, keptRow}
 use Rattle.steps.specs.Inputs.{workingAssets, InRange}
 use Rattle.steps.specs.Inputs.Laws.{range-below}
-use Rattle.working.specs.Working.{workingPlaces, Entries}
-use Rattle.working.specs.Working.Laws.{Changed, changed-none, changed-more}
+use Rattle.working.specs.Working.{workingPlaces, Entries, Changed}
+use Rattle.working.specs.Working.Laws.{changed-none, changed-more}
 use Rattle.working.specs.Slices.{SideStore, numberAt, withNumber, HasPlaces, Stored}
 use Rattle.working.specs.Slices.Laws.{standing-start, stored-none, stored-more}
 use Rattle.rows.specs.declared.Recurrence.{Recurrence}

@@ -1,8 +1,9 @@
 -- The contracts of the screen's calls imply what is demanded of them.
 -- Assumes nothing.
 use Prim.Native.Nat.{ℕ}
-use mathlib.Core.Path.{_≡_, refl, ap}
+use mathlib.Core.Path.{_≡_, refl, sym, ap, _∙_}
 use mathlib.Core.List.{List}
+use native.Mathlib.Omega.{arith}
 use lib.ListN.{length}
 use Rattle.steps.specs.declared.Tranche.{Tranche}
 use Rattle.steps.specs.Inputs.{largestPool, screenPool, screenDistance}
@@ -21,7 +22,7 @@ pub screen-column-meets : {pool : Pool} {before after : Store} {units units′ :
     → ScreenColumnDemands pool (slices before) (slices after) units units′ refusal
 unfolding screenColumnRefusal columnRefusal lengths store largestPool screenPool screenDistance
 screen-column-meets prints = record {
-  own = column-meets-by (prints .own) refl;
+  own = column-meets-by (prints .own) refl (λ none. sym (prints .library (λ eleven. absurd (omega arith)) .fills .refusal-is) ∙ none);
   screens = prints .screens;
   library = prints .library;
   same = λ not after₂ units₂ refusal₂ by-library. let same = prints-once (prints .library not) by-library in (same .0, ap slices (same .1), same .2);
@@ -32,7 +33,7 @@ pub screen-tranches-meet : {pool : Pool} {tranches : List Tranche} {count : ℕ}
     → ScreenTranchesDemands pool tranches count (slices before) (slices after) answer
 unfolding screenLossRefusal lossRefusal lengths store largestPool screenPool screenDistance
 screen-tranches-meet answer eight replies = record {
-  own = tranches-meet-by answer eight (replies .own) refl;
+  own = tranches-meet-by answer eight (replies .own) refl (λ none. sym (replies .library (λ eleven. absurd (omega arith)) .fills .refusal-is) ∙ none);
   screens = replies .screens;
   library = replies .library;
   same = λ not after₂ answer₂ by-library.

@@ -1,6 +1,6 @@
 -- `shift_list` meets its contract.
 -- Assumes nothing.
-use mathlib.Core.Path.{_≡_, refl, sym, _∙_}
+use mathlib.Core.Path.{_≡_, sym, _∙_}
 use borrow.Author.Needs.{needs}
 use native.Mathlib.Omega.{arith}
 use lib.Dec.{lit<}
@@ -10,9 +10,10 @@ use Rattle.steps.specs.Inputs.Laws.{range-uncorrelated, report-range, working-r
 use Rattle.grounds.specs.Grounds.{shiftGrounds, fourLengths, EntriesAccepted}
 use Rattle.grounds.specs.Grounds.Laws.{entries-accepted, report-accepted}
 use Rattle.steps.specs.CorrelatedBinomial.{keptDefaults}
+use Rattle.steps.specs.CorrelatedBinomial.Theorems.{pool-budgets, steps-hold}
 use Rattle.working.specs.Slices.Laws.{entries-untouched}
 use Rattle.store.specs.Stores.{store, lengths}
-use Rattle.store.specs.Calls.Laws.{store-untouched, store-filled}
+use Rattle.store.specs.Calls.Laws.{fills-untouched, fills-filled}
 use Rattle.pool.specs.Calls.Laws.{column-is-ready}
 use Rattle.shift.specs.Calls.{shiftRefusal}
 use Rattle.shift.specs.Calls.Laws.{listed-holds}
@@ -32,8 +33,8 @@ accepted c = entries-accepted 10 _ _ _ _ _ _ (lit< tt) (c .before .shift-refusal
 refused : tie.Need-returns
 unfolding shiftRefusal lengths store fourLengths reportPool
 refused c = record {
-  refusal-is = c .before .shift-refusal .ensures;
-  leaves = store-untouched (c .before .shift-refusal .result) (λ none. omega arith) refl;
+  fills = fills-untouched (λ none. omega arith) (c .before .shift-refusal .ensures);
+  uncorrelated-hold = λ none. absurd (omega arith);
   shifts-are = entries-untouched _ _ _ (c .before .shift-refusal .result) (λ none. omega arith);
   holds-shifts = λ none. absurd (omega arith);
 }
@@ -66,8 +67,8 @@ listed c =
     let pool = accepted (else1 filled) .fill .pool in
     let list = c .before .print-shifts .ensures .shifts-are _ _ (filled .fill-both .ensures .low-row) (c .before .before .before .last-row .ensures) in
     record {
-      refusal-is = sym (goes-on (else1 filled)) ∙ else1 filled .before .shift-refusal .ensures;
-      leaves = store-filled (report-range (pool .range)) (filled .fill-both .ensures .store-is);
+      fills = fills-filled (report-range (pool .range)) (sym (goes-on (else1 filled)) ∙ else1 filled .before .shift-refusal .ensures) (filled .fill-both .ensures .store-is);
+      uncorrelated-hold = λ _. let range = range-uncorrelated (report-range (pool .range)) in steps-hold range (pool-budgets (range .assets));
       shifts-are = list;
       holds-shifts = λ _. listed-holds (pool .range) (pool .not-empty) _ list;
     }

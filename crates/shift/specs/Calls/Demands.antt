@@ -1,8 +1,9 @@
 -- The contract of the call for a shift list implies what is demanded of it.
 -- Assumes nothing.
 use Prim.Native.Nat.{ℕ}
+use mathlib.Core.Path.{refl}
 use mathlib.Core.List.{List}
-use lib.Dec.{lit≤}
+use lib.Dec.{lit<, lit≤}
 use lib.IntN.{ℤ}
 use Rattle.model.specs.Fraction.{Fraction, AtMost}
 use Rattle.model.specs.Fraction.Laws.{at-most-refl, less-at-most-trans, times-mono}
@@ -14,12 +15,14 @@ use Rattle.steps.specs.Chances.{keptTail}
 use Rattle.steps.specs.Column.{unitsOfCertainty, exactUnits, tenths, printedTail}
 use Rattle.steps.specs.Column.Laws.{within-weaken}
 use Rattle.steps.specs.Shifts.{tailShift}
-use Rattle.steps.specs.Inputs.{reportPool, finePool, distanceFor, shiftTenths}
+use Rattle.steps.specs.Inputs.{upTo, reportPool, finePool, distanceFor, shiftTenths}
 use Rattle.steps.specs.Promises.{HoldsShifts}
+use Rattle.grounds.specs.Grounds.{shiftGrounds}
+use Rattle.grounds.specs.Grounds.Laws.{entries-accepted}
 use Rattle.store.specs.declared.Pool.{Pool}
 use Rattle.store.specs.Stores.{Store, lengths}
 use Rattle.pool.specs.Demands.{partsFor, oneAndThreeTenths, Demand3Shifts, ShiftDemands}
-use Rattle.pool.specs.Demands.Theorems.{slices, entries-meet, printed-meet}
+use Rattle.pool.specs.Demands.Theorems.{slices, steps-meet, entries-meet, printed-meet}
 use Rattle.shift.specs.Calls.{shiftRefusal, ListsShifts}
 
 -- A shift list of any two rows whose offset is 1.3 units at most.
@@ -40,8 +43,9 @@ list-meets {r} low base most holds = record {
 
 pub shift-meets : {pool : Pool} {before after : Store} {shifts shifts′ : List ℤ} {refusal : ℕ} → ListsShifts pool before after shifts shifts′ refusal
     → ShiftDemands pool (slices before) (slices after) shifts shifts′ refusal
-unfolding shiftRefusal lengths reportPool finePool distanceFor partsFor tenths shiftTenths oneAndThreeTenths defaults
+unfolding shiftRefusal shiftGrounds lengths reportPool upTo finePool distanceFor partsFor tenths shiftTenths oneAndThreeTenths defaults
 shift-meets lists = record {
-  leaves = entries-meet (lists .leaves) _ _ (lists .refusal-is) (lists .shifts-are);
+  leaves = entries-meet (lists .fills) _ _ refl (λ none. entries-accepted 10 _ _ _ _ _ _ (lit< tt) (lists .fills .refusal-is) none) (lists .shifts-are);
+  uncorrelated = λ none. steps-meet (lists .uncorrelated-hold none);
   list = λ none. list-meets _ _ (record { cross = lit≤ tt }) (lists .holds-shifts none);
 }

@@ -1,4 +1,5 @@
--- What the calls on a store promise, from what the steps give.
+-- What the calls on a store promise, from what the steps give; that what every filling call promises leaves one outcome, and what else holds of that outcome by
+-- another list of grounds and at another distance.
 -- Assumes nothing.
 use Prim.Native.Nat.{ℕ, zero, suc, _+_, _≤_, _<_}
 use mathlib.Core.Path.{_≡_, refl, sym, ap, _∙_}
@@ -22,8 +23,8 @@ use Rattle.rows.specs.Store.Laws.{filled-entry}
 use Rattle.grounds.specs.Grounds.Laws.{row-accepted}
 use Rattle.store.specs.declared.Pool.{Pool}
 use Rattle.store.specs.Stores.{Store, place, storeAfter}
-use Rattle.store.specs.Stores.Laws.{place-triangle, filled-holds}
-use Rattle.store.specs.Calls.{LeavesStore, rowRefusal, partAfter, HandsRow}
+use Rattle.store.specs.Stores.Laws.{place-triangle, store-untouched, filled-holds}
+use Rattle.store.specs.Calls.{Fills, rowRefusal, partAfter, HandsRow}
 
 -- ---- row
 
@@ -84,25 +85,33 @@ module _ (n k : ℕ) (significands : List ℕ) {part : List ℕ} (is : part ≡ 
   pub hands-row : HandsRow n k significands part
   hands-row = record { part-is = is; refused-empty = part-empty; accepted-length = part-length; entries = part-entry; of-filled = part-filled }
 
--- ---- the store
+-- ---- the refusal and the store
 
-module _ {pool : Pool} {before after : Store} where
-  module _ {g : ℕ → ℕ} where
-    -- What holds of a store follows from which it is, at every distance that the budgets of the pool give.
-    pub store-left : (refusal : ℕ) → after ≡ storeAfter (pool .assets) (pool .probability) (pool .correlation) refusal before
-        → (refusal ≡ 0 → InRange largestPool (pool .assets) (pool .probability) (pool .correlation) × BudgetsFor g (pool .assets))
-        → LeavesStore g pool before after refusal
-    store-left refusal is given = record {
-      store-is = is;
-      holds = λ none. rw (is, none) (filled-holds before (given none .0) (given none .1));
-      steps-hold = λ none. steps-hold (given none .0) (given none .1);
-    }
+module _ {g : ℕ → ℕ} {pool : Pool} {before after : Store} {refusal : ℕ}
+    (given : refusal ≡ 0 → InRange largestPool (pool .assets) (pool .probability) (pool .correlation) × BudgetsFor g (pool .assets)) where
+  -- What holds of a store follows from which it is, at every distance that the budgets of the pool give.
+  fills-left : {number : ℕ} → refusal ≡ number → after ≡ storeAfter (pool .assets) (pool .probability) (pool .correlation) refusal before
+      → Fills number g pool before after refusal
+  fills-left is left = record {
+    refusal-is = is;
+    store-is = left;
+    holds = λ none. rw (left, none) (filled-holds before (given none .0) (given none .1));
+    steps-hold = λ none. steps-hold (given none .0) (given none .1);
+  }
 
-    pub store-untouched : (refusal : ℕ) → (refusal ≡ 0 → ⊥) → after ≡ before → LeavesStore g pool before after refusal
-    unfolding storeAfter
-    store-untouched zero some same = absurd (some refl)
-    store-untouched (suc r) some same = store-left (suc r) same (λ none. absurd (some none))
+  -- The same outcome by another list that gives the same number, at another distance.
+  pub fills-apart : {f : ℕ → ℕ} {number number′ : ℕ} → number ≡ number′ → Fills number f pool before after refusal → Fills number′ g pool before after refusal
+  fills-apart same fills = fills-left (fills .refusal-is ∙ same) (fills .store-is)
 
-  pub store-filled : InRange largestPool (pool .assets) (pool .probability) (pool .correlation)
-      → after ≡ storeAfter (pool .assets) (pool .probability) (pool .correlation) 0 before → LeavesStore distanceFor pool before after 0
-  store-filled range is = store-left 0 is (λ _. (range, pool-budgets (range .assets)))
+-- A refused call, and one that fills.
+pub fills-untouched : {g : ℕ → ℕ} {pool : Pool} {before : Store} {number refusal : ℕ} → (refusal ≡ 0 → ⊥) → refusal ≡ number → Fills number g pool before before refusal
+fills-untouched some is = fills-left (λ none. absurd (some none)) is (store-untouched _ _ _ _ _ some)
+
+pub fills-filled : {pool : Pool} {before after : Store} {number : ℕ} → InRange largestPool (pool .assets) (pool .probability) (pool .correlation) → 0 ≡ number
+    → after ≡ storeAfter (pool .assets) (pool .probability) (pool .correlation) 0 before → Fills number distanceFor pool before after 0
+fills-filled range = fills-left (λ _. (range, pool-budgets (range .assets)))
+
+-- What meets the contract for the same inputs is the same, at whatever distances.
+pub fills-once : {f g : ℕ → ℕ} {pool : Pool} {before after after′ : Store} {number number′ refusal refusal′ : ℕ} → number ≡ number′
+    → Fills number f pool before after refusal → Fills number′ g pool before after′ refusal′ → (refusal ≡ refusal′) × (after ≡ after′)
+fills-once same one other = let alike = one .refusal-is ∙ same ∙ sym (other .refusal-is) in (alike, rw (one .store-is, other .store-is, alike) refl)

@@ -1,6 +1,6 @@
--- What a filled store holds.
+-- What a store is after a refusal, and what a filled one holds.
 -- Assumes nothing.
-use Prim.Native.Nat.{ℕ, _+_, _≤_}
+use Prim.Native.Nat.{ℕ, zero, suc, _+_, _≤_}
 use mathlib.Core.Path.{_≡_, refl}
 use native.Mathlib.Omega.{arith}
 use Rattle.model.specs.Number.{triangle}
@@ -30,6 +30,11 @@ enclosed-same : {g : ℕ} {low high low′ high′ : Kept} {v : Fraction} → lo
 enclosed-same low-is high-is enclosed = rw (low-is, high-is) enclosed
 
 module _ (n p ρ : ℕ) where
+  pub store-untouched : (refusal : ℕ) (s : Store) → (refusal ≡ 0 → ⊥) → s ≡ storeAfter n p ρ refusal s
+  unfolding storeAfter
+  store-untouched zero s some = absurd (some refl)
+  store-untouched (suc r) s some = refl
+
   number-filled : (side : Side) (h : SideStore) {j k : ℕ} → j ≤ k → k ≤ n → numberAt (filledSide side n p ρ h) (place k j) ≡ keptRow side p ρ k j
   unfolding numberAt filledSide nought
   number-filled side h {j} {k} l m =

@@ -12,7 +12,7 @@ use lib.IntN.{pos}
 use lib.Seq.{drop-cons, drop-append-seam, set-append-seam, set-getD, getD-at, getD-append-add, getD-drop, ext-getD}
 use Rattle.kept.specs.declared.Kept.{Kept}
 use Rattle.kept.specs.Rounding.{nought}
-use Rattle.working.specs.Working.Laws.{Changed}
+use Rattle.working.specs.Working.{Changed}
 use Rattle.working.specs.Slices.{tabulate, overwritten, entriesAfter, SideStore, sideStore, numberAt, withNumber, HasPlaces, Holding, Standing, Stored}
 
 -- ---- lists
@@ -110,6 +110,9 @@ module _ {A : Type 0} (n : ℕ) (f : ℕ → A) (old : List A) where
       entries-at d k l =
           rw (entries-written, overwritten-at (tabulate (suc n) f) old k d (rw (length-tabulate (suc n) f) (omega arith)))
           (getD-tabulate (suc n) f k d (omega arith))
+
+      pub entries-length : n < length old → length new ≡ length old
+      entries-length room = rw (entries-written, overwritten-length (tabulate (suc n) f) old (rw length-tabulate (omega arith))) refl
 
       pub entries-later : drop (n + 1) new ≡ drop (n + 1) old
       entries-later = rw entries-written (overwritten-later (tabulate (suc n) f) old {m = n + 1} (rw length-tabulate (omega arith)))

@@ -1,14 +1,14 @@
 -- The laws of a working row.
 -- Assumes nothing.
 use Prim.Native.Nat.{ℕ, _+_, _≤_, _<_}
-use mathlib.Core.Path.{_≡_, refl, _∙_}
+use mathlib.Core.Path.{_≡_, refl, subst, _∙_}
 use mathlib.Core.List.{List}
 use native.Mathlib.Omega.{arith}
 use native.Mathlib.Nat.{le-trans}
 use lib.ListN.{length, getD, set, length-set}
 use lib.Seq.{getD-set-same, getD-set-other}
 use borrow.Author.Count.{below-more}
-use Rattle.working.specs.Working.{Entries}
+use Rattle.working.specs.Working.{Entries, Changed}
 
 -- ---- entries that are stored one after the other
 
@@ -33,11 +33,6 @@ module _ {A : Type 0} {places : ℕ} {f : ℕ → A} where
 
 -- ---- a row that is changed from its first entry up
 
--- Of the first m entries of w, those below j are those of f, and the others are still those of `row`.
-pub record Changed {A : Type 0} (places m j : ℕ) (row w : List A) (f : ℕ → A) : Type 0 where
-  pub new : Entries places j w f
-  pub old : (d : A) (i : ℕ) → j ≤ i → i < m → getD w i d ≡ getD row i d
-
 module _ {A : Type 0} {places m : ℕ} {f : ℕ → A} where
   pub changed-none : {row : List A} → length row ≡ places → Changed places m 0 row row f
   changed-none places-are = record { new = entries-none places-are; old = λ d i l h. refl }
@@ -47,3 +42,7 @@ module _ {A : Type 0} {places m : ℕ} {f : ℕ → A} where
     new = entries-more (changed .new) l new;
     old = λ d i h b. getD-set-other w j i v d (λ e. omega arith) ∙ changed .old d i (omega arith) b;
   }
+
+  -- Once all that were to be changed are.
+  pub changed-all : {j k : ℕ} {row w : List A} → j ≤ k → k ≤ j → Changed places m j row w f → Changed places m k row w f
+  changed-all {j} {k} {row} {w} most least = let same : j ≡ k = omega arith in subst (λ i. Changed places m i row w f) same

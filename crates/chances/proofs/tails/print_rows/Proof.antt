@@ -5,7 +5,8 @@ use mathlib.Core.Path.{refl}
 use native.Mathlib.Omega.{arith}
 use lib.ListN.{length}
 use Rattle.steps.specs.Inputs.{workingAssets}
-use Rattle.working.specs.Working.Laws.{Changed, changed-none, changed-more}
+use Rattle.working.specs.Working.{Changed}
+use Rattle.working.specs.Working.Laws.{changed-none, changed-more}
 use Rattle.working.specs.Slices.Laws.{changed-entries}
 use Rattle.chances.specs.Tails.{differenceAt}
 use Rattle.chances.proofs.tails.print_rows.Statement.{statement}

@@ -5,14 +5,16 @@ use borrow.Author.Needs.{needs}
 use Rattle.kept.specs.declared.Kept.{Kept}
 use Rattle.kept.specs.declared.Side.the-variants.{Low}
 use Rattle.steps.specs.Chances.{keptChances, keptTail}
+use Rattle.steps.specs.Numbers.{of-tails}
 use Rattle.working.specs.Working.{workingPlaces, Entries}
+use Rattle.chances.specs.Chances.Laws.{chances-ready}
 use Rattle.chances.specs.Tails.{Tails}
-use Rattle.chances.specs.Tails.Laws.{tails-ready, printable}
+use Rattle.chances.specs.Tails.Laws.{printable}
 use Rattle.chances.proofs.tails.print_tails.Statement.{statement}
 use Rattle.chances.proofs.tails.print_tails.Tie as tie
 
 tails-requires : tie.Need-tails-requires
-tails-requires c κs = let steps = c .before .pre .steps in tails-ready steps (c .chances .ensures .chances _ (steps .entries))
+tails-requires c κs = chances-ready (c .before .pre .steps) (c .chances .ensures) (λ _. of-tails)
 
 -- The tails, from the entries of the row.
 tails-are : (c : tie.After-tails)

@@ -7,7 +7,7 @@ use Rattle.steps.specs.Inputs.{largestPool}
 use Rattle.grounds.specs.Grounds.{fourLengths, LossAccepted}
 use Rattle.grounds.specs.Grounds.Laws.{loss-accepted}
 use Rattle.store.specs.Stores.{Store, store, lengths}
-use Rattle.store.specs.Calls.Laws.{store-filled}
+use Rattle.store.specs.Calls.Laws.{fills-filled}
 use Rattle.model.specs.CorrelatedBinomial.{defaults}
 use Rattle.steps.specs.CorrelatedBinomial.{keptDefaults}
 use Rattle.steps.specs.CorrelatedBinomial.Theorems.{pool-budgets, answers}
@@ -39,7 +39,7 @@ returns : tie.Need-returns
 returns c =
     let test = c .before .before in
     let answer = c .refused .ensures in
-    rw (answer .refusal-is) (replies-untouched (number-is test) (λ none. omega arith) (answer .losses-are))
+    rw (answer .refusal-is) (replies-untouched (λ none. omega arith) (number-is test) (answer .losses-are))
 
 tranche-losses-requires : tie.Need-tranche-losses-requires
 tranche-losses-requires c κs =
@@ -59,8 +59,7 @@ returns-2 c =
     let answer = c .tranche-losses .ensures in
     let are = answer .losses-are _ (record { on-low = rows .low-row; on-high = rows .high-row }) in
     rw (answer .refusal-is) (record {
-      refusal-is = sym (goes-on else1) ∙ number-is (else1 .before);
-      leaves = store-filled (pool .range) (rows .store-is);
+      fills = fills-filled (pool .range) (sym (goes-on else1) ∙ number-is (else1 .before)) (rows .store-is);
       replies = reply-answered are (answers (pool .range) (pool-budgets (pool .range .assets)) (pool .not-empty) (given .tranches .tranches) are);
     })
 

@@ -12,7 +12,7 @@ use Rattle.model.specs.CorrelatedBinomial.{defaults}
 use Rattle.steps.specs.CorrelatedBinomial.{keptDefaults}
 use Rattle.steps.specs.CorrelatedBinomial.Theorems.{column}
 use Rattle.store.specs.Stores.{store, lengths}
-use Rattle.store.specs.Calls.Laws.{store-filled}
+use Rattle.store.specs.Calls.Laws.{fills-filled}
 use Rattle.pool.specs.Calls.{columnRefusal}
 use Rattle.pool.specs.Calls.Laws.{column-is-ready, row-printed, prints-untouched}
 use Rattle.pool.proofs.printing.column.Statement.{statement}
@@ -30,7 +30,7 @@ accepted c = entries-accepted 8 _ _ _ _ _ _ (lit< tt) (c .before .column-refusal
 
 refused : tie.Need-returns
 unfolding columnRefusal lengths store fourLengths largestPool
-refused c = prints-untouched (c .before .column-refusal .ensures) (λ none. omega arith)
+refused c = prints-untouched (λ none. omega arith) (c .before .column-refusal .ensures)
 
 print-column-requires : tie.Need-print-column-requires
 print-column-requires c κs =
@@ -46,8 +46,7 @@ printed c =
     let range = accepted else1 .fill .pool .range in
     let rows = c .before .before .print-column .ensures .units-are _ (filled .fill-both .ensures .low-row) in
     record {
-      refusal-is = sym (goes-on else1) ∙ else1 .before .column-refusal .ensures;
-      leaves = store-filled range (filled .fill-both .ensures .store-is);
+      fills = fills-filled range (sym (goes-on else1) ∙ else1 .before .column-refusal .ensures) (filled .fill-both .ensures .store-is);
       prints = row-printed _ (column range) rows;
     }
 

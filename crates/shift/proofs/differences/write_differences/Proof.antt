@@ -7,7 +7,8 @@ use lib.IntN.{pos}
 use lib.ListN.{length}
 use Rattle.kept.specs.Rounding.Exponents.{result-back}
 use Rattle.steps.specs.Inputs.{workingAssets}
-use Rattle.working.specs.Working.Laws.{Changed, changed-none, changed-more}
+use Rattle.working.specs.Working.{Changed}
+use Rattle.working.specs.Working.Laws.{changed-none, changed-more}
 use Rattle.working.specs.Slices.Laws.{changed-entries}
 use Rattle.shift.specs.Differences.{shiftAt}
 use Rattle.shift.proofs.differences.write_differences.Statement.{statement}

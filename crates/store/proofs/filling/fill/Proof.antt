@@ -1,6 +1,6 @@
 -- `fill` meets its contract.
 -- Assumes nothing.
-use mathlib.Core.Path.{_≡_, refl, sym, _∙_}
+use mathlib.Core.Path.{_≡_, sym, _∙_}
 use borrow.Author.Needs.{needs}
 use native.Mathlib.Omega.{arith}
 use Rattle.grounds.specs.Grounds.{fourLengths}
@@ -8,7 +8,7 @@ use Rattle.grounds.specs.Grounds.Laws.{fill-accepted}
 use Rattle.steps.specs.Inputs.{largestPool}
 use Rattle.store.specs.Stores.{store, lengths}
 use Rattle.store.specs.Calls.{fillRefusal}
-use Rattle.store.specs.Calls.Laws.{store-untouched, store-filled}
+use Rattle.store.specs.Calls.Laws.{fills-untouched, fills-filled}
 use Rattle.store.proofs.filling.fill.Statement.{statement}
 use Rattle.store.proofs.filling.fill.Tie as tie
 
@@ -18,7 +18,7 @@ goes-on c = omega arith
 
 refused : tie.Need-returns
 unfolding fillRefusal lengths store fourLengths largestPool
-refused c = record { refusal-is = c .before .fill-refusal .ensures; leaves = store-untouched (c .before .fill-refusal .result) (λ none. omega arith) refl }
+refused c = fills-untouched (λ none. omega arith) (c .before .fill-refusal .ensures)
 
 fill-both-requires : tie.Need-fill-both-requires
 unfolding lengths store fourLengths largestPool
@@ -32,10 +32,7 @@ filled c =
     let filled = c .before .before .before .before .before .before in
     let accepted = filled .before .before .before .before .before in
     let refusal = accepted .before .fill-refusal .ensures in
-    record {
-      refusal-is = sym (goes-on accepted) ∙ refusal;
-      leaves = store-filled (fill-accepted _ _ _ _ _ refusal (goes-on accepted) .pool .range) (filled .fill-both .ensures .store-is);
-    }
+    fills-filled (fill-accepted _ _ _ _ _ refusal (goes-on accepted) .pool .range) (sym (goes-on accepted) ∙ refusal) (filled .fill-both .ensures .store-is)
 
 pub fill-spec : {M : Type 1} → statement M
 fill-spec =

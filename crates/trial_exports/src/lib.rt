@@ -1,0 +1,282 @@
+// The calls under C names, for the programs of tools/random_calls. Numbers pass as themselves, a slice as a pointer and a length, an
+// array by a pointer.
+use pool::Answer;
+use pool::Loss;
+use pool::Pool;
+use pool::TRANCHES;
+use pool::Tranche;
+
+// Three numbers for each tranche: recovery, lower and upper attachment.
+const RECORDS: usize = 24;
+
+// The entries of the longest row.
+const ROWS: usize = 101;
+
+// A loss of an answer: a kind, 0 untouched, 1 faint, 2 shown, and up to two numbers. Where there is none, it is 0.
+struct Numbers {
+    kind: u32,
+    first: f64,
+    second: f64,
+}
+
+fn pool_of(assets: u32, probability: u32, correlation: u32) -> Pool {
+    Pool {
+        assets,
+        probability,
+        correlation,
+    }
+}
+
+fn tranche_of(recovery: u32, lower: u32, upper: u32) -> Tranche {
+    Tranche {
+        recovery,
+        lower,
+        upper,
+    }
+}
+
+fn tranches_of(records: &[u32; RECORDS]) -> [Tranche; TRANCHES] {
+    [
+        tranche_of(records[0], records[1], records[2]),
+        tranche_of(records[3], records[4], records[5]),
+        tranche_of(records[6], records[7], records[8]),
+        tranche_of(records[9], records[10], records[11]),
+        tranche_of(records[12], records[13], records[14]),
+        tranche_of(records[15], records[16], records[17]),
+        tranche_of(records[18], records[19], records[20]),
+        tranche_of(records[21], records[22], records[23]),
+    ]
+}
+
+fn numbers_of(loss: Loss) -> Numbers {
+    match loss {
+        Loss::Untouched => Numbers {
+            kind: 0,
+            first: 0.0,
+            second: 0.0,
+        },
+        Loss::Faint(x) => Numbers {
+            kind: 1,
+            first: x,
+            second: 0.0,
+        },
+        Loss::Shown(bounds) => Numbers {
+            kind: 2,
+            first: bounds.low,
+            second: bounds.high,
+        },
+    }
+}
+
+// Writes the eight losses, and gives the number of the refusal, or 0.
+fn write_answer(
+    answer: Answer,
+    kinds: &mut [u32; TRANCHES],
+    firsts: &mut [f64; TRANCHES],
+    seconds: &mut [f64; TRANCHES],
+) -> u32 {
+    let losses = answer.losses;
+    for i in 0..TRANCHES {
+        let place = losses[i];
+        let loss = place.loss;
+        let numbers = numbers_of(loss);
+        kinds[i] = numbers.kind;
+        firsts[i] = numbers.first;
+        seconds[i] = numbers.second;
+    }
+    answer.refusal
+}
+
+#[no_mangle]
+pub extern "C" fn trial_fill(
+    assets: u32,
+    probability: u32,
+    correlation: u32,
+    low_significands: &mut [u32],
+    high_significands: &mut [u32],
+    low_exponents: &mut [i32],
+    high_exponents: &mut [i32],
+) -> u32 {
+    pool::fill(
+        pool_of(assets, probability, correlation),
+        low_significands,
+        high_significands,
+        low_exponents,
+        high_exponents,
+    )
+}
+
+fn put(copy: &mut [u32; ROWS], i: usize, x: u32) {
+    if i < ROWS {
+        copy[i] = x;
+    }
+}
+
+// Copies the row, and gives its length.
+#[no_mangle]
+pub extern "C" fn trial_row(n: u32, k: u32, significands: &[u32], copy: &mut [u32; ROWS]) -> usize {
+    let part = pool::row(n, k, significands);
+    let mut i = 0;
+    while i < part.len() {
+        put(copy, i, part[i]);
+        i += 1;
+    }
+    part.len()
+}
+
+#[no_mangle]
+pub extern "C" fn trial_row_refusal(n: u32, k: u32, significands: &[u32]) -> u32 {
+    pool::row_refusal(n, k, significands)
+}
+
+#[no_mangle]
+pub extern "C" fn trial_column(
+    assets: u32,
+    probability: u32,
+    correlation: u32,
+    low_significands: &mut [u32],
+    high_significands: &mut [u32],
+    low_exponents: &mut [i32],
+    high_exponents: &mut [i32],
+    units: &mut [u32],
+) -> u32 {
+    pool::column(
+        pool_of(assets, probability, correlation),
+        low_significands,
+        high_significands,
+        low_exponents,
+        high_exponents,
+        units,
+    )
+}
+
+#[no_mangle]
+pub extern "C" fn trial_screen_column(
+    assets: u32,
+    probability: u32,
+    correlation: u32,
+    low_significands: &mut [u32],
+    high_significands: &mut [u32],
+    low_exponents: &mut [i32],
+    high_exponents: &mut [i32],
+    units: &mut [u32],
+) -> u32 {
+    screen::column(
+        pool_of(assets, probability, correlation),
+        low_significands,
+        high_significands,
+        low_exponents,
+        high_exponents,
+        units,
+    )
+}
+
+#[no_mangle]
+pub extern "C" fn trial_shift_list(
+    assets: u32,
+    probability: u32,
+    correlation: u32,
+    low_significands: &mut [u32],
+    high_significands: &mut [u32],
+    low_exponents: &mut [i32],
+    high_exponents: &mut [i32],
+    shifts: &mut [i32],
+) -> u32 {
+    shift::shift_list(
+        pool_of(assets, probability, correlation),
+        low_significands,
+        high_significands,
+        low_exponents,
+        high_exponents,
+        shifts,
+    )
+}
+
+#[no_mangle]
+pub extern "C" fn trial_beta_column(
+    assets: u32,
+    probability: u32,
+    correlation: u32,
+    units: &mut [u32],
+) -> u32 {
+    beta_binomial::column(pool_of(assets, probability, correlation), units)
+}
+
+#[no_mangle]
+pub extern "C" fn trial_losses(
+    assets: u32,
+    probability: u32,
+    correlation: u32,
+    records: &[u32; RECORDS],
+    count: u32,
+    low_significands: &mut [u32],
+    high_significands: &mut [u32],
+    low_exponents: &mut [i32],
+    high_exponents: &mut [i32],
+    kinds: &mut [u32; TRANCHES],
+    firsts: &mut [f64; TRANCHES],
+    seconds: &mut [f64; TRANCHES],
+) -> u32 {
+    let answer = pool::tranche_losses(
+        pool_of(assets, probability, correlation),
+        tranches_of(records),
+        count,
+        low_significands,
+        high_significands,
+        low_exponents,
+        high_exponents,
+    );
+    write_answer(answer, kinds, firsts, seconds)
+}
+
+#[no_mangle]
+pub extern "C" fn trial_screen_losses(
+    assets: u32,
+    probability: u32,
+    correlation: u32,
+    records: &[u32; RECORDS],
+    count: u32,
+    low_significands: &mut [u32],
+    high_significands: &mut [u32],
+    low_exponents: &mut [i32],
+    high_exponents: &mut [i32],
+    kinds: &mut [u32; TRANCHES],
+    firsts: &mut [f64; TRANCHES],
+    seconds: &mut [f64; TRANCHES],
+) -> u32 {
+    let answer = screen::tranche_losses(
+        pool_of(assets, probability, correlation),
+        tranches_of(records),
+        count,
+        low_significands,
+        high_significands,
+        low_exponents,
+        high_exponents,
+    );
+    write_answer(answer, kinds, firsts, seconds)
+}
+
+#[no_mangle]
+pub extern "C" fn trial_beta_losses(
+    assets: u32,
+    probability: u32,
+    correlation: u32,
+    records: &[u32; RECORDS],
+    count: u32,
+    kinds: &mut [u32; TRANCHES],
+    firsts: &mut [f64; TRANCHES],
+    seconds: &mut [f64; TRANCHES],
+) -> u32 {
+    let pool = pool_of(assets, probability, correlation);
+    let answer = beta_binomial::tranche_losses(pool, tranches_of(records), count);
+    write_answer(answer, kinds, firsts, seconds)
+}
+
+// The reply of the program `column` to an input, and its length.
+#[no_mangle]
+pub extern "C" fn trial_reply(start: &[u8; 64], count: usize, text: &mut [u8; 1_125]) -> usize {
+    let reply = reply::reply_to_start(*start, count);
+    let bytes = reply.text;
+    *text = bytes;
+    reply.length
+}

@@ -1,0 +1,19 @@
+-- `write_records` is safe.
+-- Assumes nothing.
+use Prim.Native.Nat.{_-_}
+use borrow.Author.Needs.{needs}
+use Rattle.trial_lines.proofs.tranches.write_records.Statement.{statement}
+use Rattle.trial_lines.proofs.tranches.write_records.Tie as tie
+
+abbrev Inv-loop : tie.InvT-loop
+Inv-loop count tranches i₀ i = Unit {0}
+
+abbrev μ-loop : tie.MeasureT-loop
+μ-loop count tranches i₀ i = 8 - i
+
+pub write-records-spec : {M : Type 1} → statement M
+write-records-spec =
+    tie.close
+    (tie.spec Inv-loop μ-loop
+    (λ c. tt) (λ c. search needs) (λ c. search needs) (λ c. search needs) (λ c κs. tt) (λ c. search needs) (λ c. search needs)
+    (λ c. tt) (λ c. tt))

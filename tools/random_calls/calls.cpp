@@ -1,0 +1,219 @@
+// Makes random calls of the library, and compares all that each leaves and answers with the steps and with the exact model.
+#include <cstdlib>
+#include <string>
+#include "exact.hpp"
+#include "grounds.hpp"
+#include "lent.hpp"
+#include "library.hpp"
+#include "reply.hpp"
+#include "tally.hpp"
+
+enum Library { LIBRARY, SCREEN, BETA_BINOMIAL };
+
+static constexpr uint32_t SCREEN_PARTS = 1000000;
+
+static uint32_t parts_of(Library library, uint32_t n) { return library == SCREEN ? SCREEN_PARTS : library_parts(n); }
+
+static Model model_of(Library library) { return library == BETA_BINOMIAL ? BETA : MOODY; }
+
+static size_t places(uint32_t n) { return row_start(measured(n) + 1); }
+
+static uint32_t pool_refusal(Library library, Pool pool) {
+    return first_of({assets_ground(pool.assets, LARGEST_POOL), library == SCREEN ? screen_ground(pool.assets) : 0,
+                     pool_ground(pool), library == BETA_BINOMIAL ? beta_ground(pool) : 0});
+}
+
+static uint32_t room_refusal(Library library, Pool pool, const LentStore &store) {
+    return library == BETA_BINOMIAL ? 0 : store_ground(pool.assets, store.shortest());
+}
+
+// What is promised of all bounds that an accepted call makes of a pool. The beta-binomial has no store.
+static bool pool_holds(Library library, Pool pool, const Exact &exact, LentStore &store) {
+    Kept low[ROWS], high[ROWS];
+    if (library == BETA_BINOMIAL) {
+        beta_row<LOW>(pool, low);
+        beta_row<HIGH>(pool, high);
+        for (uint32_t j = 0; j <= pool.assets; j++)
+            if (!is_product(pool, exact, j)) return false;
+    } else {
+        moody_rows<LOW>(pool, nullptr, nullptr, low);
+        moody_rows<HIGH>(pool, nullptr, nullptr, high);
+        if (!store_holds(library == SCREEN ? SCREEN_PARTS : 0, exact, store.held())) return false;
+    }
+    return rows_hold(parts_of(library, pool.assets), exact, low, high);
+}
+
+// Counts a call. An accepted one is held to the exact model where that is due: its bounds, and by `holds` what else is promised.
+template <class Holds>
+static void conclude(Tally &tally, Library library, Pool pool, LentStore &store, uint32_t refusal, bool same, Holds holds) {
+    same &= store.as_wanted();
+    if (refusal == 0 && tally.exact_due(pool.assets)) {
+        Exact exact = exact_model(pool, model_of(library));
+        same &= pool_holds(library, pool, exact, store) && holds(exact);
+    }
+    tally.count(pool, refusal, same);
+}
+
+static void fill_call(Random &random, Tally &tally) {
+    Pool pool = random_pool(random);
+    LentStore store(random, places(pool.assets));
+    Kept low[ROWS], high[ROWS];
+    uint32_t refusal = first_of({pool_refusal(LIBRARY, pool), room_refusal(LIBRARY, pool, store)});
+    if (refusal == 0) fill(pool, store.wanted(), low, high);
+    bool same = trial_fill(POOL_OF(pool), SLICES_OF(store)) == refusal;
+    conclude(tally, LIBRARY, pool, store, refusal, same, [](const Exact &) { return true; });
+}
+
+struct RowInputs {
+    uint32_t n, k;
+    Lent<uint32_t> significands;
+    uint32_t refusal;
+
+    explicit RowInputs(Random &random)
+        : n(random_pool(random).assets), k(random.percent(90) ? random.below(measured(n) + 2) : too_large(random, measured(n))),
+          significands(random, slice_length(random, places(n))),
+          refusal(first_of({assets_ground(n, LARGEST_POOL), store_ground(n, significands.length), row_ground(n, k)})) {}
+};
+
+// The slice holds random words, so that the copy of a part tells which part it is.
+static void row_call(Random &random, Tally &tally) {
+    RowInputs row(random);
+    Lent<uint32_t> copy(random, ROWS);
+    size_t wanted = row.refusal ? 0 : row.k + 1;
+    std::copy_n(row.significands.data() + (row.refusal ? 0 : row_start(row.k)), wanted, copy.wanted_data());
+    size_t length = trial_row(row.n, row.k, SLICE_OF(row.significands), copy.data());
+    bool same = length == wanted && copy.as_wanted() && row.significands.as_wanted();
+    tally.count({row.n, row.k, 0}, row.refusal, same);
+}
+
+static void row_refusal_call(Random &random, Tally &tally) {
+    RowInputs row(random);
+    uint32_t answer = trial_row_refusal(row.n, row.k, SLICE_OF(row.significands));
+    tally.count({row.n, row.k, 0}, row.refusal, answer == row.refusal && row.significands.as_wanted());
+}
+
+static void want_column(Library library, Pool pool, LentStore &store, Lent<uint32_t> &units) {
+    if (library == BETA_BINOMIAL) beta_column(pool, units.wanted_data());
+    else column(pool, store.wanted(), units.wanted_data());
+}
+
+static uint32_t call_column(Library library, Pool pool, LentStore &store, Lent<uint32_t> &units) {
+    if (library == BETA_BINOMIAL) return trial_beta_column(POOL_OF(pool), SLICE_OF(units));
+    auto call = library == SCREEN ? trial_screen_column : trial_column;
+    return call(POOL_OF(pool), SLICES_OF(store), SLICE_OF(units));
+}
+
+template <Library library>
+static void column_call(Random &random, Tally &tally) {
+    Pool pool = random_pool(random);
+    LentStore store(random, places(pool.assets));
+    Lent<uint32_t> units(random, slice_length(random, measured(pool.assets) + 1));
+    uint32_t refusal = first_of({pool_refusal(library, pool), room_refusal(library, pool, store),
+                                 list_ground(8, pool.assets, units.length)});
+    if (refusal == 0) want_column(library, pool, store, units);
+    bool same = call_column(library, pool, store, units) == refusal && units.as_wanted();
+    conclude(tally, library, pool, store, refusal, same, [&](const Exact &exact) { return column_holds(exact, units.data()); });
+}
+
+static void shift_call(Random &random, Tally &tally) {
+    Pool pool = random_pool(random);
+    LentStore store(random, places(pool.assets));
+    Lent<int32_t> shifts(random, slice_length(random, measured(pool.assets) + 1));
+    uint32_t refusal = first_of({assets_ground(pool.assets, REPORT_POOL), pool_refusal(LIBRARY, pool),
+                                 room_refusal(LIBRARY, pool, store), list_ground(10, pool.assets, shifts.length)});
+    if (refusal == 0) shift_list(pool, store.wanted(), shifts.wanted_data());
+    bool same = trial_shift_list(POOL_OF(pool), SLICES_OF(store), SLICE_OF(shifts)) == refusal && shifts.as_wanted();
+    conclude(tally, LIBRARY, pool, store, refusal, same, [&](const Exact &exact) {
+        return shifts_hold(exact, exact_model({pool.assets, pool.probability, 0}, MOODY), shifts.data());
+    });
+}
+
+struct TrancheInputs {
+    uint32_t count;
+    Tranche tranches[TRANCHES];
+    Lent<uint32_t> records;
+
+    explicit TrancheInputs(Random &random) : count(random_count(random)), records(random, 3 * TRANCHES) {
+        for (Tranche &tranche : tranches) tranche = random_tranche(random);
+        std::memcpy(records.data(), tranches, sizeof tranches);
+        records.wanted = records.held;
+    }
+};
+
+// Wants the answers of the tranches within the count, and the others untouched.
+static void want_answers(Tally &tally, const TrancheInputs &given, uint32_t refusal, const Bounds *bounds, LentAnswer &answer) {
+    for (size_t i = 0; i < TRANCHES; i++) {
+        bool within = refusal == 0 && i < given.count;
+        Answer wanted = within ? answer_of(bounds[i].low, bounds[i].high) : Answer{0, 0, 0};
+        answer.want(i, wanted);
+        if (within) tally.kinds[wanted.kind]++;
+    }
+}
+
+static void want_losses(Library library, Pool pool, LentStore &store, const TrancheInputs &given, Bounds *bounds) {
+    if (library == BETA_BINOMIAL) beta_losses(pool, given.tranches, given.count, bounds);
+    else losses(pool, store.wanted(), given.tranches, given.count, bounds);
+}
+
+static uint32_t call_losses(Library library, Pool pool, LentStore &store, TrancheInputs &given, LentAnswer &answer) {
+    const uint32_t *records = given.records.data();
+    if (library == BETA_BINOMIAL) return trial_beta_losses(POOL_OF(pool), records, given.count, ARRAYS_OF(answer));
+    auto call = library == SCREEN ? trial_screen_losses : trial_losses;
+    return call(POOL_OF(pool), records, given.count, SLICES_OF(store), ARRAYS_OF(answer));
+}
+
+static bool losses_hold(uint32_t parts, const Exact &exact, const TrancheInputs &given, const Bounds *bounds) {
+    for (uint32_t i = 0; i < given.count; i++)
+        if (!loss_holds(parts, exact, given.tranches[i], bounds[i])) return false;
+    return true;
+}
+
+template <Library library>
+static void losses_call(Random &random, Tally &tally) {
+    Pool pool = random_pool(random);
+    TrancheInputs given(random);
+    LentStore store(random, places(pool.assets));
+    LentAnswer answer(random);
+    Bounds bounds[TRANCHES];
+    uint32_t refusal = first_of({pool_refusal(library, pool), tranches_ground(given.tranches, given.count),
+                                 room_refusal(library, pool, store)});
+    if (refusal == 0) want_losses(library, pool, store, given, bounds);
+    want_answers(tally, given, refusal, bounds, answer);
+    bool same = call_losses(library, pool, store, given, answer) == refusal && answer.as_wanted() && given.records.as_wanted();
+    conclude(tally, library, pool, store, refusal, same,
+             [&](const Exact &exact) { return losses_hold(parts_of(library, pool.assets), exact, given, bounds); });
+}
+
+static const struct {
+    const char *name;
+    void (*call)(Random &, Tally &);
+} CALLS[] = {
+    {"fill", fill_call},
+    {"row", row_call},
+    {"row_refusal", row_refusal_call},
+    {"column", column_call<LIBRARY>},
+    {"tranche_losses", losses_call<LIBRARY>},
+    {"shift_list", shift_call},
+    {"screen column", column_call<SCREEN>},
+    {"screen tranche_losses", losses_call<SCREEN>},
+    {"beta_binomial column", column_call<BETA_BINOMIAL>},
+    {"beta_binomial tranche_losses", losses_call<BETA_BINOMIAL>},
+    {"reply_to_start", reply_call},
+};
+
+// The number of calls of each kind, the seed, and the only kind to be tried, if there is one.
+int main(int count, char **words) {
+    uint64_t calls = count > 1 ? std::strtoull(words[1], nullptr, 10) : 100000;
+    uint64_t seed = count > 2 ? std::strtoull(words[2], nullptr, 10) : 1;
+    uint64_t mismatches = 0;
+    for (const auto &each : CALLS) {
+        Random random{seed++};
+        Tally tally{each.name};
+        if (count > 3 && std::string(words[3]) != each.name) continue;
+        while (tally.calls < calls) each.call(random, tally);
+        tally.print();
+        mismatches += tally.mismatches;
+    }
+    std::printf("%lu mismatches\n", mismatches);
+    return mismatches != 0;
+}

@@ -1,0 +1,65 @@
+// Slices lent to a call. Each holds random words, stands between guard words, and has beside it what the whole array has to hold
+// after the call.
+#pragma once
+#include <algorithm>
+#include <cstring>
+#include <vector>
+#include "inputs.hpp"
+
+template <class Word>
+struct Lent {
+    static constexpr size_t GUARD = 16;
+    size_t length;
+    std::vector<Word> held, wanted;
+
+    Lent(Random &random, size_t length) : length(length), held(length + 2 * GUARD) {
+        for (Word &word : held) word = Word(random.word());
+        wanted = held;
+    }
+    Word *data() { return held.data() + GUARD; }
+    Word *wanted_data() { return wanted.data() + GUARD; }
+    bool as_wanted() const { return std::memcmp(held.data(), wanted.data(), held.size() * sizeof(Word)) == 0; }
+};
+
+struct LentStore {
+    Lent<uint32_t> low_significands, high_significands;
+    Lent<int32_t> low_exponents, high_exponents;
+
+    LentStore(Random &random, size_t needed)
+        : low_significands(random, slice_length(random, needed)), high_significands(random, slice_length(random, needed)),
+          low_exponents(random, slice_length(random, needed)), high_exponents(random, slice_length(random, needed)) {}
+    size_t shortest() const {
+        return std::min({low_significands.length, high_significands.length, low_exponents.length, high_exponents.length});
+    }
+    Store held() { return {low_significands.data(), high_significands.data(), low_exponents.data(), high_exponents.data()}; }
+    Store wanted() {
+        return {low_significands.wanted_data(), high_significands.wanted_data(), low_exponents.wanted_data(),
+                high_exponents.wanted_data()};
+    }
+    bool as_wanted() const {
+        return low_significands.as_wanted() && high_significands.as_wanted() && low_exponents.as_wanted() &&
+               high_exponents.as_wanted();
+    }
+};
+
+// The eight losses of an answer, in three arrays.
+struct LentAnswer {
+    Lent<uint32_t> kinds;
+    Lent<uint64_t> firsts, seconds;
+
+    explicit LentAnswer(Random &random) : kinds(random, TRANCHES), firsts(random, TRANCHES), seconds(random, TRANCHES) {}
+    void want(size_t place, Answer answer) {
+        kinds.wanted_data()[place] = answer.kind;
+        firsts.wanted_data()[place] = answer.first;
+        seconds.wanted_data()[place] = answer.second;
+    }
+    bool as_wanted() const { return kinds.as_wanted() && firsts.as_wanted() && seconds.as_wanted(); }
+};
+
+// As arguments of a function of the library.
+#define SLICE_OF(slice) slice.data(), slice.length
+#define SLICES_OF(store)                                                                                   \
+    SLICE_OF(store.low_significands), SLICE_OF(store.high_significands), SLICE_OF(store.low_exponents), \
+        SLICE_OF(store.high_exponents)
+#define ARRAYS_OF(answer) \
+    answer.kinds.data(), reinterpret_cast<double *>(answer.firsts.data()), reinterpret_cast<double *>(answer.seconds.data())

@@ -1,0 +1,96 @@
+// The time of a call of the library beside that of the same steps in C++: the least of many runs, in microseconds. Both write to
+// arrays of their own, which are compared; these are not cleared between runs.
+#include <algorithm>
+#include <chrono>
+#include <cstdio>
+#include <cstdlib>
+#include <cstring>
+#include "library.hpp"
+#include "steps.hpp"
+
+static constexpr size_t PLACES = LARGEST_POOL * (LARGEST_POOL + 3) / 2 + 1;
+
+// All that a call writes and answers.
+struct Arrays {
+    uint32_t low_significands[PLACES], high_significands[PLACES];
+    int32_t low_exponents[PLACES], high_exponents[PLACES];
+    uint32_t units[ROWS];
+    int32_t shifts[ROWS];
+    uint32_t kinds[TRANCHES];
+    double firsts[TRANCHES], seconds[TRANCHES];
+
+    Store store() { return {low_significands, high_significands, low_exponents, high_exponents}; }
+};
+
+static Arrays by_library, by_steps;
+
+static const Tranche tranches[TRANCHES] = {
+    {4000, 1000, 3000}, {2000, 3000, 7000}, {0, 0, 10000},      {4000, 0, 300},
+    {4000, 300, 700},   {6000, 1000, 4000}, {3000, 6000, 7000}, {5000, 0, 5000},
+};
+
+#define SLICES_OF(arrays) \
+    arrays.low_significands, PLACES, arrays.high_significands, PLACES, arrays.low_exponents, PLACES, arrays.high_exponents, PLACES
+
+static void library_fill(Pool pool) { trial_fill(POOL_OF(pool), SLICES_OF(by_library)); }
+
+static void library_column(Pool pool) { trial_column(POOL_OF(pool), SLICES_OF(by_library), by_library.units, ROWS); }
+
+static void library_losses(Pool pool) {
+    trial_losses(POOL_OF(pool), &tranches[0].recovery, TRANCHES, SLICES_OF(by_library), by_library.kinds, by_library.firsts,
+                 by_library.seconds);
+}
+
+static void library_shifts(Pool pool) { trial_shift_list(POOL_OF(pool), SLICES_OF(by_library), by_library.shifts, ROWS); }
+
+static void steps_fill(Pool pool) {
+    Kept low[ROWS], high[ROWS];
+    fill(pool, by_steps.store(), low, high);
+}
+
+static void steps_column(Pool pool) { column(pool, by_steps.store(), by_steps.units); }
+
+static void steps_losses(Pool pool) {
+    Bounds bounds[TRANCHES];
+    losses(pool, by_steps.store(), tranches, TRANCHES, bounds);
+    for (size_t i = 0; i < TRANCHES; i++) {
+        Answer answer = answer_of(bounds[i].low, bounds[i].high);
+        by_steps.kinds[i] = answer.kind;
+        std::memcpy(&by_steps.firsts[i], &answer.first, sizeof(double));
+        std::memcpy(&by_steps.seconds[i], &answer.second, sizeof(double));
+    }
+}
+
+static void steps_shifts(Pool pool) { shift_list(pool, by_steps.store(), by_steps.shifts); }
+
+static double microseconds(void (*call)(Pool), Pool pool, int batch) {
+    auto start = std::chrono::steady_clock::now();
+    for (int i = 0; i < batch; i++) call(pool);
+    return std::chrono::duration<double, std::micro>(std::chrono::steady_clock::now() - start).count() / batch;
+}
+
+// Short calls are timed several at a time.
+static void compare(const char *name, void (*library)(Pool), void (*steps)(Pool), Pool pool, int runs) {
+    int batch = pool.assets < 10 ? 100 : pool.assets < 50 ? 10 : 1;
+    double least_library = 1e9, least_steps = 1e9;
+    for (int run = 0; run < runs; run++) {
+        least_library = std::min(least_library, microseconds(library, pool, batch));
+        least_steps = std::min(least_steps, microseconds(steps, pool, batch));
+    }
+    bool same = std::memcmp(&by_library, &by_steps, sizeof by_library) == 0;
+    std::printf("| %s | %u | %u | %.2f | %.2f | %.2f |%s\n", name, pool.assets, pool.correlation, least_library, least_steps,
+                least_library / least_steps, same ? "" : " not the same");
+}
+
+int main(int count, char **words) {
+    int runs = count > 1 ? std::atoi(words[1]) : 300;
+    std::puts("| call | assets | correlation | library | steps | ratio |\n|---|---|---|---|---|---|");
+    for (uint32_t correlation : {3000, 0})
+        for (uint32_t assets : {4, 20, 64, 100}) {
+            Pool pool{assets, 1000, correlation};
+            compare("fill", library_fill, steps_fill, pool, runs);
+            compare("column", library_column, steps_column, pool, runs);
+            compare("tranche_losses, eight", library_losses, steps_losses, pool, runs);
+            if (assets <= REPORT_POOL) compare("shift_list", library_shifts, steps_shifts, pool, runs);
+        }
+}
