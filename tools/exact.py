@@ -1,4 +1,4 @@
-"""Bounds, printed tails, columns and shift lists held to the exact model, whose chances are worked out by the closed form.
+"""Bounds, losses, printed tails, columns and shift lists held to the exact model, whose chances are worked out by the closed form.
 
 A model is its correlation after i defaults, and its steps."""
 from collections import namedtuple
@@ -7,8 +7,8 @@ from functools import lru_cache
 from itertools import accumulate
 from math import comb, prod
 
-from pools import UNITS, WHOLE, beta_quotients, beta_steps, loss, loss_units, printed_rows, printed_tails, shifts, steps
-from pools import tails
+from pools import UNITS, WHOLE, beta_quotients, beta_steps, layer, loss, loss_units, printed_rows, printed_tails, shifts
+from pools import steps, tails
 
 Model = namedtuple("Model", "correlation steps")
 # The most assets whose bounds have the finer distance, and whose printed rows are the nearer ones.
@@ -122,6 +122,23 @@ def hold_loss(n, p, rho, recovery, lower, upper, model=MOODY, parts=library_part
     """That of the tranche loss of step 6."""
     low, high = (loss(side, model.steps(side, n, p, rho)[1], recovery, lower, upper) for side in (0, 1))
     hold_apart(parts(n), low, high, *exact_loss(n, p, rho, recovery, lower, upper, model))
+
+
+def exact_layer(n, p, rho, i, j):
+    """The mean of the tails at i to j, as a numerator and a denominator."""
+    exact, whole = exact_tails(n, p, rho)
+    return sum(exact[i:j + 1]), whole * (j - i + 1)
+
+
+def hold_layer(n, p, rho, i, j):
+    """That of the loss of a layer. The exact one is the loss of the tranche that has its attachments, whole or not, and no
+    recovery; that of all defaults is p."""
+    low, high = (layer(side, steps(side, n, p, rho)[1], i, j) for side in (0, 1))
+    exact = exact_layer(n, p, rho, i, j)
+    hold_apart(library_parts(n), low, high, *exact)
+    attachments = Fraction(WHOLE * (i - 1), n), Fraction(WHOLE * j, n)
+    assert Fraction(*exact) == Fraction(*exact_loss(n, p, rho, 0, *attachments))
+    assert (i, j) != (1, n) or Fraction(*exact) == Fraction(p, WHOLE)
 
 
 @lru_cache(maxsize=None)

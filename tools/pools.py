@@ -107,6 +107,12 @@ def loss(side, chances, recovery, lower, upper):
     return quotient(side, total, most)
 
 
+def layer(side, chances, i, j):
+    """The expected loss of the layer from the i-th to the j-th default: the mean of the tails at i to j, added from i up."""
+    total = reduce(lambda total, tail: plus(side, total, tail), tails(side, chances)[i:j + 1], ZERO)
+    return quotient(side, total, j - i + 1)
+
+
 def in_units(x):
     """A fraction in whole units, to nearest; what is exactly half way goes up."""
     return floor(UNITS * x + Fraction(1, 2))
@@ -209,6 +215,10 @@ def counted_grounds(tranches, count):
 
 def loss_refusal(n, p, rho, tranches, count, lengths, screen=False):
     return first(pool_grounds(n, p, rho, screen) + counted_grounds(tranches, count) + store_ground(n, lengths))
+
+
+def layer_refusal(n, p, rho, i, j, lengths):
+    return first(pool_grounds(n, p, rho) + [(14, not 1 <= i <= j <= n)] + store_ground(n, lengths))
 
 
 def beta_pool_grounds(n, p, rho):

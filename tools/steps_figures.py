@@ -5,7 +5,7 @@ stops at the first that neither Cases.antt nor BetaBinomial/Cases.antt in crates
 """
 from pathlib import Path
 
-from pools import beta_steps, loss, printed_rows, printed_tails, shifts, steps, summed_counts, tails
+from pools import beta_steps, layer, loss, printed_rows, printed_tails, shifts, steps, summed_counts, tails
 
 SPECS = Path(__file__).parent.parent / "crates/steps/specs"
 CASES = (SPECS / "Cases.antt").read_text() + (SPECS / "BetaBinomial/Cases.antt").read_text()
@@ -35,6 +35,9 @@ def main():
         digits(f"tailOf 3 1000 3000 {k}", lambda side: tails(side, made[side][1])[k])
     for lower, upper in [(1000, 3000), (0, 7000)]:
         digits(f"threeLoss {lower} {upper} (lit< tt)", lambda side: loss(side, made[side][1], 4000, lower, upper))
+    for i in range(1, 4):
+        digits(f"layerOf 3 1000 3000 {i} 3", lambda side: layer(side, made[side][1], i, 3))
+    digits("layerOf 3 500 500 1 3", lambda side: layer(side, steps(side, 3, 500, 500)[1], 1, 3))
     for j in range(5):
         digits(f"λ side. summedCount side 4 {j}", lambda side: summed_counts(side, 4)[j])
     rows, printed = printed_rows(made[0][1]), printed_tails(made[0][1])

@@ -4,12 +4,12 @@ column, every shift list and every loss is held to the exact model.
 A library is "" (the one of the pool), "screen" or "beta"; a tranche is a recovery and two attachments."""
 from fractions import Fraction
 
-from exact import BETA, MOODY, hold_bounds, hold_column, hold_loss, hold_quotients, hold_same, hold_shifts, library_parts
-from exact import screen_parts
+from exact import BETA, MOODY, hold_bounds, hold_column, hold_layer, hold_loss, hold_quotients, hold_same, hold_shifts
+from exact import library_parts, screen_parts
 from kept import value
 from pools import LARGEST_POOL, REPORT_POOL, SCREEN_POOL, TRANCHES, UNITS, WHOLE, beta_column_refusal, beta_loss_refusal
-from pools import column_refusal, fill_refusal, loss, loss_answer, loss_refusal, printed_rows, row_refusal, shift_refusal, shifts
-from pools import tails
+from pools import column_refusal, fill_refusal, layer, layer_refusal, loss, loss_answer, loss_refusal, printed_rows, row_refusal
+from pools import shift_refusal, shifts, tails
 from trial_support import SEED, checksum, following, line
 
 # The places of a store and of a list that are lent where enough are: for up to 64 assets, and for more.
@@ -275,11 +275,9 @@ def losses_of(library, n, p, rho, tranches, count, lengths):
     return refusal, [] if refusal else [held_loss(library, n, p, rho, *tranche) for tranche in tranches[:count]]
 
 
-def loss_line(name, library, pool, given, tranches, count, lengths=None, other=()):
-    """A loss call, on marked slices or on slices that hold another pool's store. That of the beta-binomial is lent no store. Gives
-    what it answers."""
-    lengths = lengths or ample(pool[0], other=other)
-    refusal, losses = losses_of(library, *pool, tranches, count, lengths)
+def loss_line(name, library, pool, given, refusal, losses, lengths, other):
+    """A call for losses, on marked slices or on slices that hold another pool's store. That of the beta-binomial is lent no
+    store."""
     words = ["over", *other] if other else []
     words += [library] * (library != "") + [name, *pool, *given]
     words += ["lengths", *lengths] if library != "beta" and not other else []
@@ -287,13 +285,20 @@ def loss_line(name, library, pool, given, tranches, count, lengths=None, other=(
     if library != "beta":
         words += store_words([] if refusal else held(*pool), lengths, made(*other) if other else ())
     line(*words)
+
+
+def losses_line(name, library, pool, given, tranches, count, lengths, other):
+    """A call for the losses of tranches. Gives what it answers."""
+    lengths = lengths or ample(pool[0], other=other)
+    refusal, losses = losses_of(library, *pool, tranches, count, lengths)
+    loss_line(name, library, pool, given, refusal, losses, lengths, other)
     return refusal, losses
 
 
 def tranche_loss(n, p, rho, recovery, lower, upper, lengths=None, library="", other=()):
     """The loss of one tranche. The records behind it would be refused."""
     tranches = [(recovery, lower, upper)] + [REFUSED] * (TRANCHES - 1)
-    loss_line("loss", library, (n, p, rho), [recovery, "tranche", lower, upper], tranches, 1, lengths, other)
+    losses_line("loss", library, (n, p, rho), [recovery, "tranche", lower, upper], tranches, 1, lengths, other)
 
 
 def tranche_losses(library, pool, tranches, count, lengths=None, other=()):
@@ -301,7 +306,22 @@ def tranche_losses(library, pool, tranches, count, lengths=None, other=()):
     assert len(tranches) == TRANCHES
     within, past = ([number for tranche in part for number in tranche] for part in (tranches[:count], tranches[count:]))
     given = ["count", count, "tranches", *within, *["unread"] * (past != []), *past]
-    return loss_line("losses", library, pool, given, tranches, count, lengths, other)
+    return losses_line("losses", library, pool, given, tranches, count, lengths, other)
+
+
+def held_layer(n, p, rho, i, j):
+    """The loss of a layer, held to the exact one."""
+    hold_layer(n, p, rho, i, j)
+    return loss_answer(*(layer(side, chances, i, j) for side, (_, chances) in enumerate(made(n, p, rho))))
+
+
+def layer_loss(pool, i, j, lengths=None, other=()):
+    """The loss of a layer. Gives what the call answers."""
+    lengths = lengths or ample(pool[0], other=other)
+    refusal = layer_refusal(*pool, i, j, lengths)
+    losses = [] if refusal else [held_layer(*pool, i, j)]
+    loss_line("layer", "", pool, [i, j], refusal, losses, lengths, other)
+    return refusal, losses
 
 
 def basis_points(word):
@@ -362,6 +382,12 @@ def likely_tranche(word):
     return recovery % (WHOLE + 1), lower % upper, upper
 
 
+def random_layer(word, n):
+    """Two numbers from 0 to n + 1; seven pairs in eight are put in order."""
+    i, j = ((each >> 8) % 2**32 % (n + 2) for each in (word, following(word)))
+    return (j, i) if i > j and word % 8 else (i, j)
+
+
 def random_cases(count, random_pool=random_pool):
     """Pools with a tranche each."""
     word = SEED
@@ -378,3 +404,12 @@ def random_losses(count, pools=(random_pool, small_pool)):
         tranches = [likely_tranche(following(fourth, 1 + 4 * i)) for i in range(TRANCHES)]
         yield *(pool(word) for pool in pools), tranches, (fourth >> 8) % 11
         word = following(word, 36)
+
+
+def random_layers(count):
+    """Pools with a layer each: of any size, then of 65 to 100 assets."""
+    word = SEED
+    for _ in range(count):
+        for pool in (random_pool(word), large_pool(word)):
+            yield pool, *random_layer(following(word, 3), pool[0])
+        word = following(word, 7)

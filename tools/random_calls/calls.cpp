@@ -140,10 +140,10 @@ struct TrancheInputs {
     }
 };
 
-// Wants the answers of the tranches within the count, and the others untouched.
-static void want_answers(Tally &tally, const TrancheInputs &given, uint32_t refusal, const Bounds *bounds, LentAnswer &answer) {
-    for (size_t i = 0; i < TRANCHES; i++) {
-        bool within = refusal == 0 && i < given.count;
+// Wants the answers of the first so many bounds, and the others untouched.
+static void want_answers(Tally &tally, size_t count, const Bounds *bounds, LentAnswer &answer) {
+    for (size_t i = 0; i < answer.kinds.length; i++) {
+        bool within = i < count;
         Answer wanted = within ? answer_of(bounds[i].low, bounds[i].high) : Answer{0, 0, 0};
         answer.want(i, wanted);
         if (within) tally.kinds[wanted.kind]++;
@@ -173,15 +173,31 @@ static void losses_call(Random &random, Tally &tally) {
     Pool pool = random_pool(random);
     TrancheInputs given(random);
     LentStore store(random, places(pool.assets));
-    LentAnswer answer(random);
+    LentAnswer answer(random, TRANCHES);
     Bounds bounds[TRANCHES];
     uint32_t refusal = first_of({pool_refusal(library, pool), tranches_ground(given.tranches, given.count),
                                  room_refusal(library, pool, store)});
     if (refusal == 0) want_losses(library, pool, store, given, bounds);
-    want_answers(tally, given, refusal, bounds, answer);
+    want_answers(tally, refusal ? 0 : given.count, bounds, answer);
     bool same = call_losses(library, pool, store, given, answer) == refusal && answer.as_wanted() && given.records.as_wanted();
     conclude(tally, library, pool, store, refusal, same,
              [&](const Exact &exact) { return losses_hold(parts_of(library, pool.assets), exact, given, bounds); });
+}
+
+static void layer_call(Random &random, Tally &tally) {
+    Pool pool = random_pool(random);
+    Layer layer = random_layer(random, measured(pool.assets));
+    LentStore store(random, places(pool.assets));
+    LentAnswer answer(random, 1);
+    Bounds bounds;
+    uint32_t refusal = first_of({pool_refusal(LIBRARY, pool), layer_ground(pool.assets, layer),
+                                 room_refusal(LIBRARY, pool, store)});
+    if (refusal == 0) bounds = layer_loss(pool, store.wanted(), layer);
+    want_answers(tally, refusal == 0, &bounds, answer);
+    bool same = trial_layer_loss(POOL_OF(pool), layer.i, layer.j, SLICES_OF(store), ARRAYS_OF(answer)) == refusal;
+    conclude(tally, LIBRARY, pool, store, refusal, same && answer.as_wanted(), [&](const Exact &exact) {
+        return layer_holds(library_parts(pool.assets), exact, layer, bounds);
+    });
 }
 
 static const struct {
@@ -199,6 +215,7 @@ static const struct {
     {"beta_binomial column", column_call<BETA_BINOMIAL>},
     {"beta_binomial tranche_losses", losses_call<BETA_BINOMIAL>},
     {"reply_to_start", reply_call},
+    {"layer_loss", layer_call},
 };
 
 // The number of calls of each kind, the seed, and the only kind to be tried, if there is one.

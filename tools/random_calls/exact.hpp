@@ -1,4 +1,4 @@
-// The exact model in whole numbers, and what is promised of bounds, columns and shift lists.
+// The exact model in whole numbers, and what is promised of bounds, losses, columns and shift lists.
 #pragma once
 #include <gmpxx.h>
 #include <algorithm>
@@ -160,4 +160,11 @@ inline bool loss_holds(uint32_t parts, const Exact &exact, Tranche tranche, Boun
         if (units > 0) total += exact.chances[x] * units;
     }
     return encloses(parts, least_exponent(exact.n), bounds, total, exact.whole * width);
+}
+
+// The expected number of defaults from the i-th to the j-th, over how many the layer has.
+inline bool layer_holds(uint32_t parts, const Exact &exact, Layer layer, Bounds bounds) {
+    mpz_class total = 0;
+    for (uint32_t x = layer.i; x <= exact.n; x++) total += exact.chances[x] * (std::min(x, layer.j) - layer.i + 1);
+    return encloses(parts, least_exponent(exact.n), bounds, total, exact.whole * (layer.j - layer.i + 1));
 }

@@ -28,6 +28,8 @@ inline uint32_t tranches_ground(const Tranche *tranches, uint32_t count) {
     return 0;
 }
 
+inline uint32_t layer_ground(uint32_t n, Layer layer) { return 1 <= layer.i && layer.i <= layer.j && layer.j <= n ? 0 : 14; }
+
 // A slice has fewer places than rows 0 to n take.
 inline uint32_t store_ground(uint32_t n, size_t shortest) {
     unsigned __int128 rows = n;

@@ -63,6 +63,15 @@ inline uint32_t random_count(Random &random) {
     return random.percent(94) ? random.between(1, TRANCHES) : random.among({0, 9, 10, 16, 1u << 31, UINT32_MAX});
 }
 
+// Most often one of a pool of n assets, at most 110; else one of its numbers is out of range, or both.
+inline Layer random_layer(Random &random, uint32_t n) {
+    uint32_t last = n + (n == 0), i = random.percent(20) ? 1 : random.between(1, last);
+    uint32_t j = random.percent(20) ? i : random.percent(20) ? last : random.between(i, last);
+    if (random.percent(3)) i = random.percent(50) ? 0 : too_large(random, j + 1);
+    if (random.percent(3)) j = random.percent(50) ? 0 : too_large(random, n + 1);
+    return {i, j};
+}
+
 // How many places a slice has that needs so many.
 inline size_t slice_length(Random &random, size_t needed) {
     uint32_t kind = random.below(1000);

@@ -42,12 +42,12 @@ struct LentStore {
     }
 };
 
-// The eight losses of an answer, in three arrays.
+// The losses of an answer, in three arrays.
 struct LentAnswer {
     Lent<uint32_t> kinds;
     Lent<uint64_t> firsts, seconds;
 
-    explicit LentAnswer(Random &random) : kinds(random, TRANCHES), firsts(random, TRANCHES), seconds(random, TRANCHES) {}
+    LentAnswer(Random &random, size_t places) : kinds(random, places), firsts(random, places), seconds(random, places) {}
     void want(size_t place, Answer answer) {
         kinds.wanted_data()[place] = answer.kind;
         firsts.wanted_data()[place] = answer.first;

@@ -21,5 +21,7 @@ uint32_t trial_screen_losses(uint32_t, uint32_t, uint32_t, const uint32_t *recor
                              uint32_t *kinds, double *firsts, double *seconds);
 uint32_t trial_beta_losses(uint32_t, uint32_t, uint32_t, const uint32_t *records, uint32_t count, uint32_t *kinds,
                            double *firsts, double *seconds);
+uint32_t trial_layer_loss(uint32_t, uint32_t, uint32_t, uint32_t i, uint32_t j, STORE_SLICES, uint32_t *kind, double *first,
+                          double *second);
 size_t trial_reply(const uint8_t *start, size_t count, uint8_t *text);
 }

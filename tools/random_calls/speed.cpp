@@ -43,6 +43,12 @@ static void library_losses(Pool pool) {
 
 static void library_shifts(Pool pool) { trial_shift_list(POOL_OF(pool), SLICES_OF(by_library), by_library.shifts, ROWS); }
 
+// The layer of all defaults.
+static void library_layer(Pool pool) {
+    trial_layer_loss(POOL_OF(pool), 1, pool.assets, SLICES_OF(by_library), by_library.kinds, by_library.firsts,
+                     by_library.seconds);
+}
+
 static void steps_fill(Pool pool) {
     Kept low[ROWS], high[ROWS];
     fill(pool, by_steps.store(), low, high);
@@ -50,16 +56,20 @@ static void steps_fill(Pool pool) {
 
 static void steps_column(Pool pool) { column(pool, by_steps.store(), by_steps.units); }
 
+static void put_answer(size_t i, Bounds bounds) {
+    Answer answer = answer_of(bounds.low, bounds.high);
+    by_steps.kinds[i] = answer.kind;
+    std::memcpy(&by_steps.firsts[i], &answer.first, sizeof(double));
+    std::memcpy(&by_steps.seconds[i], &answer.second, sizeof(double));
+}
+
 static void steps_losses(Pool pool) {
     Bounds bounds[TRANCHES];
     losses(pool, by_steps.store(), tranches, TRANCHES, bounds);
-    for (size_t i = 0; i < TRANCHES; i++) {
-        Answer answer = answer_of(bounds[i].low, bounds[i].high);
-        by_steps.kinds[i] = answer.kind;
-        std::memcpy(&by_steps.firsts[i], &answer.first, sizeof(double));
-        std::memcpy(&by_steps.seconds[i], &answer.second, sizeof(double));
-    }
+    for (size_t i = 0; i < TRANCHES; i++) put_answer(i, bounds[i]);
 }
+
+static void steps_layer(Pool pool) { put_answer(0, layer_loss(pool, by_steps.store(), {1, pool.assets})); }
 
 static void steps_shifts(Pool pool) { shift_list(pool, by_steps.store(), by_steps.shifts); }
 
@@ -91,6 +101,7 @@ int main(int count, char **words) {
             compare("fill", library_fill, steps_fill, pool, runs);
             compare("column", library_column, steps_column, pool, runs);
             compare("tranche_losses, eight", library_losses, steps_losses, pool, runs);
+            compare("layer_loss, all defaults", library_layer, steps_layer, pool, runs);
             if (assets <= REPORT_POOL) compare("shift_list", library_shifts, steps_shifts, pool, runs);
         }
 }

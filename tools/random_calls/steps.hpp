@@ -15,6 +15,11 @@ struct Tranche {
     uint32_t recovery, lower, upper;
 };
 
+// From the i-th to the j-th default.
+struct Layer {
+    uint32_t i, j;
+};
+
 // The four arrays of a store.
 struct Store {
     uint32_t *low_significands, *high_significands;
@@ -130,6 +135,16 @@ Kept expected_loss(uint32_t n, const Kept *chances, Tranche tranche) {
     return quotient(total.significand, uint64_t(tranche.upper - tranche.lower) * n, total.exponent, side);
 }
 
+// The tails from the i-th up to the j-th, and their mean.
+template <Side side>
+Kept expected_layer(uint32_t n, const Kept *row, Layer layer) {
+    Kept chances[ROWS], tails[ROWS], total = ZERO;
+    chances_of<side>(n, row, chances);
+    tails_of<side>(n, chances, tails);
+    for (uint32_t k = layer.i; k <= layer.j; k++) total = sum(total, tails[k], side);
+    return quotient(total.significand, layer.j - layer.i + 1, total.exponent, side);
+}
+
 // 100,000 times a low tail plus one half, rounded down. The tail is at most one.
 inline uint32_t printed(Kept tail) {
     int32_t digits = -tail.exponent;
@@ -187,6 +202,12 @@ inline void losses(Pool pool, Store store, const Tranche *tranches, uint32_t cou
     Kept low[ROWS], high[ROWS];
     fill(pool, store, low, high);
     loss_bounds(pool.assets, low, high, tranches, count, bounds);
+}
+
+inline Bounds layer_loss(Pool pool, Store store, Layer layer) {
+    Kept low[ROWS], high[ROWS];
+    fill(pool, store, low, high);
+    return {expected_layer<LOW>(pool.assets, low, layer), expected_layer<HIGH>(pool.assets, high, layer)};
 }
 
 inline void shift_list(Pool pool, Store store, int32_t *shifts) {

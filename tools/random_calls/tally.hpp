@@ -4,8 +4,8 @@
 #include <cstdio>
 #include "steps.hpp"
 
-// An input of the program `column` that is no line of three numbers.
-constexpr uint32_t NO_LINE = 14;
+// An input of the program `column` that is no line of three numbers: a number that no ground has.
+constexpr uint32_t NO_LINE = 99;
 
 // Ranges of assets: 1 to 20, 21 to 64, 65 to 100.
 constexpr uint32_t RANGES = 3;

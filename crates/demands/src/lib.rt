@@ -1,6 +1,7 @@
 // Each call with the page of demands for its contract. Nothing is added to the calls: that these functions are proved shows that the
 // contracts in their source imply the page.
 use pool::Answer;
+use pool::LayerAnswer;
 use pool::Pool;
 use pool::TRANCHES;
 use pool::Tranche;
@@ -9,7 +10,7 @@ ghost use Prim.Native.Nat.{ℕ};
 ghost use lib.ListN.{length};
 ghost use Rattle.grounds.specs.Grounds.{firstGround, rowGrounds};
 ghost use Rattle.pool.specs.Demands.{BetaColumnDemands, BetaTranchesDemands};
-ghost use Rattle.pool.specs.Demands.{lent, FillDemands, RowDemands, ColumnDemands, ShiftDemands, TranchesDemands, ScreenColumnDemands, ScreenTranchesDemands};
+ghost use Rattle.pool.specs.Demands.{lent, FillDemands, RowDemands, ColumnDemands, ShiftDemands, TranchesDemands, LayerDemands, ScreenColumnDemands, ScreenTranchesDemands};
 
 pub fn fill(
     pool: Pool,
@@ -112,6 +113,31 @@ pub fn tranche_losses(
         pool,
         tranches,
         count,
+        low_significands,
+        high_significands,
+        low_exponents,
+        high_exponents,
+    )
+}
+
+pub fn layer_loss(
+    pool: Pool,
+    i: u32,
+    j: u32,
+    low_significands: &mut [u32],
+    high_significands: &mut [u32],
+    low_exponents: &mut [i32],
+    high_exponents: &mut [i32],
+) -> LayerAnswer
+    ensures { λ r. ⌜ LayerDemands pool i j
+        (lent (now («low_significands» .entry)) (now («high_significands» .entry)) (now («low_exponents» .entry)) (now («high_exponents» .entry)))
+        (lent (now («low_significands» .exit)) (now («high_significands» .exit)) (now («low_exponents» .exit)) (now («high_exponents» .exit)))
+        r ⌝ }
+{
+    pool::layer_loss(
+        pool,
+        i,
+        j,
         low_significands,
         high_significands,
         low_exponents,

@@ -23,8 +23,8 @@ pub struct Bounds {
     pub high: f64,
 }
 
-// The expected loss of a tranche. Untouched: it is zero. Faint: its low bound is below 2^−800; the number is the greater of the
-// high bound and 2^−800. Shown: both bounds.
+// The expected loss of a tranche or of a layer. Untouched: it is zero. Faint: its low bound is below 2^−800; the number is the greater
+// of the high bound and 2^−800. Shown: both bounds.
 pub enum Loss {
     Untouched,
     Faint(f64),
@@ -107,7 +107,7 @@ fn raised(x: Kept) -> Kept
 }
 
 // Untouched, faint or shown.
-fn loss_answer(low: Kept, high: Kept) -> Loss
+pub fn loss_answer(low: Kept, high: Kept) -> Loss
     requires { ⌜ Answerable low high ⌝ }
     ensures { λ r. ⌜ lossOf r ≡ lossAnswer low high ⌝ }
 {

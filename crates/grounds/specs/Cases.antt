@@ -1,5 +1,6 @@
 -- The grounds in figures: each for every input, those that each call checks, in order, for each ground of the library inputs to which it alone applies, what
--- a loss call answers by its tranches and their count, what the screen, a shift list and the program `column` answer around their ceilings, and what the beta-binomial answers around full correlation.
+-- a loss call answers by its tranches and their count, what a layer call answers by its first and its last default, what the screen, a shift list and the
+-- program `column` answer around their ceilings, and what the beta-binomial answers around full correlation.
 -- Assumes nothing.
 use Prim.Native.Nat.{ℕ, suc, _+_, _*_, _/_, _≤_, _<_}
 use mathlib.Core.Path.{_≡_, refl}
@@ -12,9 +13,9 @@ use Rattle.steps.specs.declared.Tranche.{Tranche}
 use Rattle.steps.specs.Inputs.{largestPool, reportPool, screenPool}
 use Rattle.steps.specs.Tranches.{tranchePlaces}
 use Rattle.grounds.specs.Grounds.{Ground, firstOf, firstGround, storePlaces, someShorter, assetsGround, probabilityGround, correlationGround, recoveryGround, upperGround}
-use Rattle.grounds.specs.Grounds.{attachmentsGround, storeGround, entriesGround, rowGround, screenGround, fullCorrelationGround, countGround, poolGrounds}
+use Rattle.grounds.specs.Grounds.{attachmentsGround, storeGround, entriesGround, rowGround, screenGround, fullCorrelationGround, countGround, layerGround, poolGrounds}
 use Rattle.grounds.specs.Grounds.{trancheGrounds, tranchesGrounds, countedGrounds, fillGrounds, rowGrounds, entriesGrounds, columnGrounds, shiftGrounds, lossGrounds}
-use Rattle.grounds.specs.Grounds.{screened, Screens, screenColumnGrounds, screenLossGrounds, betaPoolGrounds, betaColumnGrounds, betaLossGrounds}
+use Rattle.grounds.specs.Grounds.{layerGrounds, screened, Screens, screenColumnGrounds, screenLossGrounds, betaPoolGrounds, betaColumnGrounds, betaLossGrounds}
 
 -- The first ground that applies: one that does gives its number, whatever follows; one that does not leaves it to the others; none gives 0.
 pub first : (m : ℕ) (gs : List Ground)
@@ -25,7 +26,7 @@ unfolding firstGround firstOf
 first m gs = (refl, refl, refl)
 
 -- Each ground in figures, for every input.
-pub figures : (n p ρ R A B k units shifts count : ℕ) (lengths : List ℕ)
+pub figures : (n p ρ R A B k units shifts count i j : ℕ) (lengths : List ℕ)
     → (assetsGround largestPool n ≡ record { number = 1; applies = eqb n 0 || ltb 100 n })
     × (assetsGround reportPool n ≡ record { number = 1; applies = eqb n 0 || ltb 64 n })
     × (probabilityGround p ≡ record { number = 2; applies = ltb 10000 p })
@@ -40,8 +41,9 @@ pub figures : (n p ρ R A B k units shifts count : ℕ) (lengths : List ℕ)
     × (screenGround screenPool n ≡ record { number = 11; applies = ltb 20 n })
     × (fullCorrelationGround ρ ≡ record { number = 12; applies = eqb ρ 10000 })
     × (countGround count ≡ record { number = 13; applies = eqb count 0 || ltb 8 count })
-unfolding assetsGround probabilityGround correlationGround recoveryGround upperGround attachmentsGround storeGround entriesGround rowGround screenGround fullCorrelationGround countGround storePlaces tranchePlaces largestPool reportPool screenPool whole
-figures n p ρ R A B k units shifts count lengths = (refl, refl, refl, refl, refl, refl, refl, refl, refl, refl, refl, refl, refl, refl)
+    × (layerGround n i j ≡ record { number = 14; applies = (eqb i 0 || ltb j i) || ltb n j })
+unfolding assetsGround probabilityGround correlationGround recoveryGround upperGround attachmentsGround storeGround entriesGround rowGround screenGround fullCorrelationGround countGround layerGround storePlaces tranchePlaces largestPool reportPool screenPool whole
+figures n p ρ R A B k units shifts count i j lengths = (refl, refl, refl, refl, refl, refl, refl, refl, refl, refl, refl, refl, refl, refl, refl)
 
 -- Of the lengths of slices, some is shorter than m: one by one, and in no other way.
 pub shorter : (m l : ℕ) (ls : List ℕ) → (someShorter m [] ≡ false) × (someShorter m (l ∷ ls) ≡ (ltb l m || someShorter m ls))
@@ -54,7 +56,7 @@ pub screened-figures : {most limit n library number : ℕ} → Screens most limi
 screened-figures screens = (screens .eleven, screens .only, screens .otherwise)
 
 -- The grounds that each call checks, in order, with what it is given.
-pub orders : (most limit n p ρ k length units shifts count : ℕ) (t : Tranche) (ts : List Tranche) (lengths : List ℕ)
+pub orders : (most limit n p ρ k length units shifts count i j : ℕ) (t : Tranche) (ts : List Tranche) (lengths : List ℕ)
     → (fillGrounds most n p ρ lengths ≡ assetsGround most n ∷ probabilityGround p ∷ correlationGround ρ ∷ storeGround n lengths ∷ [])
     × (rowGrounds most n k length ≡ assetsGround most n ∷ storeGround n (length ∷ []) ∷ rowGround n k ∷ [])
     × (columnGrounds most n p ρ lengths units
@@ -65,6 +67,8 @@ pub orders : (most limit n p ρ k length units shifts count : ℕ) (t : Tranche)
     × (tranchesGrounds (t ∷ ts) ≡ recoveryGround (t .recovery) ∷ upperGround (t .upper) ∷ attachmentsGround (t .lower) (t .upper) ∷ tranchesGrounds ts)
     × (lossGrounds most n p ρ ts count lengths
     ≡ assetsGround most n ∷ probabilityGround p ∷ correlationGround ρ ∷ countGround count ∷ (tranchesGrounds (take count ts) ++ (storeGround n lengths ∷ [])))
+    × (layerGrounds most n p ρ i j lengths
+    ≡ assetsGround most n ∷ probabilityGround p ∷ correlationGround ρ ∷ layerGround n i j ∷ storeGround n lengths ∷ [])
     × (screenColumnGrounds most limit n p ρ lengths units
     ≡ assetsGround most n ∷ screenGround limit n ∷ probabilityGround p ∷ correlationGround ρ ∷ storeGround n lengths ∷ entriesGround 8 n units ∷ [])
     × (screenLossGrounds most limit n p ρ ts count lengths
@@ -74,42 +78,46 @@ pub orders : (most limit n p ρ k length units shifts count : ℕ) (t : Tranche)
     ≡ assetsGround most n ∷ probabilityGround p ∷ correlationGround ρ ∷ fullCorrelationGround ρ ∷ entriesGround 8 n units ∷ [])
     × (betaLossGrounds most n p ρ ts count
     ≡ assetsGround most n ∷ probabilityGround p ∷ correlationGround ρ ∷ fullCorrelationGround ρ ∷ countGround count ∷ tranchesGrounds (take count ts))
-unfolding fillGrounds rowGrounds entriesGrounds columnGrounds shiftGrounds lossGrounds screened screenColumnGrounds screenLossGrounds betaPoolGrounds betaColumnGrounds betaLossGrounds poolGrounds trancheGrounds tranchesGrounds countedGrounds
-orders most limit n p ρ k length units shifts count t ts lengths = (refl, refl, refl, refl, refl, refl, refl, refl, refl, refl, refl)
+unfolding fillGrounds rowGrounds entriesGrounds columnGrounds shiftGrounds lossGrounds layerGrounds screened screenColumnGrounds screenLossGrounds betaPoolGrounds betaColumnGrounds betaLossGrounds poolGrounds trancheGrounds tranchesGrounds countedGrounds
+orders most limit n p ρ k length units shifts count i j t ts lengths = (refl, refl, refl, refl, refl, refl, refl, refl, refl, refl, refl, refl)
 
 -- The numbers of the grounds that apply, of those of the library, with one tranche.
 abbrev applying : List Ground → List ℕ
 applying [] = []
 applying (g ∷ gs) = cond (g .applies) (g .number ∷ applying gs) (applying gs)
 
-abbrev refusing : (n p ρ count R A B : ℕ) (lengths : List ℕ) (units k shifts : ℕ) → List ℕ
-refusing n p ρ count R A B lengths units k shifts =
+abbrev refusing : (n p ρ count R A B i j : ℕ) (lengths : List ℕ) (units k shifts : ℕ) → List ℕ
+refusing n p ρ count R A B i j lengths units k shifts =
     applying (assetsGround largestPool n ∷ probabilityGround p ∷ correlationGround ρ ∷ countGround count ∷ recoveryGround R ∷ upperGround B ∷ attachmentsGround A B
-    ∷ storeGround n lengths ∷ entriesGround 8 n units ∷ rowGround n k ∷ entriesGround 10 n shifts ∷ [])
+    ∷ layerGround n i j ∷ storeGround n lengths ∷ entriesGround 8 n units ∷ rowGround n k ∷ entriesGround 10 n shifts ∷ [])
 
 -- Four slices, the last with a length of its own.
 abbrev slices : (places last : ℕ) → List ℕ
 slices places last = places ∷ places ∷ places ∷ last ∷ []
 
--- At the edge of every ground none applies, and one past it each alone.
+-- At the edge of every ground none applies, and one past it each alone; without assets 14 applies beside 1.
 pub table :
-    (refusing 1 0 0 1 0 0 1 (slices 3 3) 2 1 2 ≡ [])
-    × (refusing 100 10000 10000 8 10000 9999 10000 (slices 5151 5151) 101 100 101 ≡ [])
-    × (refusing 0 0 0 1 0 0 1 (slices 3 3) 2 0 1 ≡ 1 ∷ [])
-    × (refusing 101 10000 10000 8 10000 9999 10000 (slices 5253 5253) 102 100 102 ≡ 1 ∷ [])
-    × (refusing 100 10001 10000 8 10000 9999 10000 (slices 5151 5151) 101 100 101 ≡ 2 ∷ [])
-    × (refusing 100 10000 10001 8 10000 9999 10000 (slices 5151 5151) 101 100 101 ≡ 3 ∷ [])
-    × (refusing 100 10000 10000 0 10000 9999 10000 (slices 5151 5151) 101 100 101 ≡ 13 ∷ [])
-    × (refusing 100 10000 10000 9 10000 9999 10000 (slices 5151 5151) 101 100 101 ≡ 13 ∷ [])
-    × (refusing 100 10000 10000 8 10001 9999 10000 (slices 5151 5151) 101 100 101 ≡ 4 ∷ [])
-    × (refusing 100 10000 10000 8 10000 9999 10001 (slices 5151 5151) 101 100 101 ≡ 5 ∷ [])
-    × (refusing 100 10000 10000 8 10000 10000 10000 (slices 5151 5151) 101 100 101 ≡ 6 ∷ [])
-    × (refusing 100 10000 10000 8 10000 9999 10000 (slices 5151 5150) 101 100 101 ≡ 7 ∷ [])
-    × (refusing 100 10000 10000 8 10000 9999 10000 (slices 5151 5151) 100 100 101 ≡ 8 ∷ [])
-    × (refusing 100 10000 10000 8 10000 9999 10000 (slices 5151 5151) 101 101 101 ≡ 9 ∷ [])
-    × (refusing 100 10000 10000 8 10000 9999 10000 (slices 5151 5151) 101 100 100 ≡ 10 ∷ [])
-unfolding assetsGround probabilityGround correlationGround recoveryGround upperGround attachmentsGround storeGround entriesGround rowGround countGround storePlaces someShorter tranchePlaces largestPool whole
-table = (refl, refl, refl, refl, refl, refl, refl, refl, refl, refl, refl, refl, refl, refl, refl)
+    (refusing 1 0 0 1 0 0 1 1 1 (slices 3 3) 2 1 2 ≡ [])
+    × (refusing 100 10000 10000 8 10000 9999 10000 1 100 (slices 5151 5151) 101 100 101 ≡ [])
+    × (refusing 100 10000 10000 8 10000 9999 10000 100 100 (slices 5151 5151) 101 100 101 ≡ [])
+    × (refusing 0 0 0 1 0 0 1 1 1 (slices 3 3) 2 0 1 ≡ 1 ∷ 14 ∷ [])
+    × (refusing 101 10000 10000 8 10000 9999 10000 1 100 (slices 5253 5253) 102 100 102 ≡ 1 ∷ [])
+    × (refusing 100 10001 10000 8 10000 9999 10000 1 100 (slices 5151 5151) 101 100 101 ≡ 2 ∷ [])
+    × (refusing 100 10000 10001 8 10000 9999 10000 1 100 (slices 5151 5151) 101 100 101 ≡ 3 ∷ [])
+    × (refusing 100 10000 10000 0 10000 9999 10000 1 100 (slices 5151 5151) 101 100 101 ≡ 13 ∷ [])
+    × (refusing 100 10000 10000 9 10000 9999 10000 1 100 (slices 5151 5151) 101 100 101 ≡ 13 ∷ [])
+    × (refusing 100 10000 10000 8 10001 9999 10000 1 100 (slices 5151 5151) 101 100 101 ≡ 4 ∷ [])
+    × (refusing 100 10000 10000 8 10000 9999 10001 1 100 (slices 5151 5151) 101 100 101 ≡ 5 ∷ [])
+    × (refusing 100 10000 10000 8 10000 10000 10000 1 100 (slices 5151 5151) 101 100 101 ≡ 6 ∷ [])
+    × (refusing 100 10000 10000 8 10000 9999 10000 0 100 (slices 5151 5151) 101 100 101 ≡ 14 ∷ [])
+    × (refusing 100 10000 10000 8 10000 9999 10000 100 99 (slices 5151 5151) 101 100 101 ≡ 14 ∷ [])
+    × (refusing 100 10000 10000 8 10000 9999 10000 100 101 (slices 5151 5151) 101 100 101 ≡ 14 ∷ [])
+    × (refusing 100 10000 10000 8 10000 9999 10000 1 100 (slices 5151 5150) 101 100 101 ≡ 7 ∷ [])
+    × (refusing 100 10000 10000 8 10000 9999 10000 1 100 (slices 5151 5151) 100 100 101 ≡ 8 ∷ [])
+    × (refusing 100 10000 10000 8 10000 9999 10000 1 100 (slices 5151 5151) 101 101 101 ≡ 9 ∷ [])
+    × (refusing 100 10000 10000 8 10000 9999 10000 1 100 (slices 5151 5151) 101 100 100 ≡ 10 ∷ [])
+unfolding assetsGround probabilityGround correlationGround recoveryGround upperGround attachmentsGround storeGround entriesGround rowGround countGround layerGround storePlaces someShorter tranchePlaces largestPool whole
+table = (refl, refl, refl, refl, refl, refl, refl, refl, refl, refl, refl, refl, refl, refl, refl, refl, refl, refl, refl)
 
 abbrev tranche : (R A B : ℕ) → Tranche
 tranche R A B = record { recovery = R; lower = A; upper = B }
@@ -145,6 +153,35 @@ pub tranches-table :
     × (loss 10000 (replicate 7 accepted ++ (refused ∷ [])) 8 5150 ≡ 4)
 unfolding firstOf firstGround assetsGround probabilityGround correlationGround recoveryGround upperGround attachmentsGround storeGround countGround storePlaces someShorter lossGrounds poolGrounds trancheGrounds tranchesGrounds countedGrounds tranchePlaces largestPool whole
 tranches-table = (refl, refl, refl, refl, refl, refl, refl, refl, refl, refl, refl, refl, refl, refl, refl, refl, refl)
+
+abbrev layer : (n p ρ i j places : ℕ) → ℕ
+layer n p ρ i j places = firstGround (layerGrounds largestPool n p ρ i j (slices places places))
+
+-- A layer at both ends of the pool, at the edges of 14, with the largest i and j, and with what is checked before and after it wrong.
+pub layer-table :
+    (layer 100 10000 10000 1 100 5151 ≡ 0)
+    × (layer 100 10000 10000 1 1 5151 ≡ 0)
+    × (layer 100 10000 10000 100 100 5151 ≡ 0)
+    × (layer 100 10000 10000 0 100 5151 ≡ 14)
+    × (layer 100 10000 10000 0 0 5151 ≡ 14)
+    × (layer 100 10000 10000 1 0 5151 ≡ 14)
+    × (layer 100 10000 10000 100 99 5151 ≡ 14)
+    × (layer 100 10000 10000 1 101 5151 ≡ 14)
+    × (layer 100 10000 10000 101 101 5151 ≡ 14)
+    × (layer 100 10000 10000 4294967295 100 5151 ≡ 14)
+    × (layer 100 10000 10000 1 4294967295 5151 ≡ 14)
+    × (layer 100 10000 10000 4294967295 4294967295 5151 ≡ 14)
+    × (layer 100 10000 10000 1 100 5150 ≡ 7)
+    × (layer 100 10000 10000 0 100 5150 ≡ 14)
+    × (layer 100 10000 10000 100 99 5150 ≡ 14)
+    × (layer 100 10000 10000 1 101 5150 ≡ 14)
+    × (layer 100 10000 10001 1 100 5150 ≡ 3)
+    × (layer 100 10000 10001 0 101 5150 ≡ 3)
+    × (layer 100 10001 10001 0 101 5150 ≡ 2)
+    × (layer 0 10001 10001 0 101 0 ≡ 1)
+    × (layer 101 10001 10001 0 102 0 ≡ 1)
+unfolding firstOf firstGround assetsGround probabilityGround correlationGround layerGround storeGround storePlaces someShorter layerGrounds poolGrounds largestPool whole
+layer-table = (refl, refl, refl, refl, refl, refl, refl, refl, refl, refl, refl, refl, refl, refl, refl, refl, refl, refl, refl, refl, refl)
 
 -- The screen's column and loss for n assets: the number with all else right, and with all else wrong.
 abbrev OnScreen : (n right wrong : ℕ) → Type 0

@@ -9,7 +9,7 @@ use lib.ListN.{take}
 use Rattle.model.specs.Fraction.{whole}
 use Rattle.model.specs.Number.{triangle}
 use Rattle.steps.specs.declared.Tranche.{Tranche}
-use Rattle.steps.specs.Inputs.{InRange}
+use Rattle.steps.specs.Inputs.{InRange, LayerInRange}
 use Rattle.steps.specs.Tranches.{tranchePlaces, TranchesInRange}
 use Rattle.grounds.specs.declared.Lengths.{Lengths}
 pub mod Laws
@@ -92,6 +92,10 @@ fullCorrelationGround ρ = record { number = 12; applies = eqb ρ whole }
 unfoldable pub countGround : (count : ℕ) → Ground
 countGround count = record { number = 13; applies = eqb count 0 || ltb tranchePlaces count }
 
+-- Not 1 ≤ i ≤ j ≤ n.
+unfoldable pub layerGround : (n i j : ℕ) → Ground
+layerGround n i j = record { number = 14; applies = (eqb i 0 || ltb j i) || ltb n j }
+
 -- ---- the grounds of each call, in order; `most` is its ceiling on the assets
 
 -- 1 to 3, on the pool.
@@ -134,6 +138,10 @@ shiftGrounds = entriesGrounds 10
 -- 1 to 3, 13, 4 to 6 of each tranche within the count, and 7.
 unfoldable pub lossGrounds : (most n p ρ : ℕ) (ts : List Tranche) (count : ℕ) (lengths : List ℕ) → List Ground
 lossGrounds most n p ρ ts count lengths = poolGrounds most n p ρ ++ (countedGrounds ts count ++ (storeGround n lengths ∷ []))
+
+-- 1 to 3, 14 and 7.
+unfoldable pub layerGrounds : (most n p ρ i j : ℕ) (lengths : List ℕ) → List Ground
+layerGrounds most n p ρ i j lengths = poolGrounds most n p ρ ++ (layerGround n i j ∷ storeGround n lengths ∷ [])
 
 -- On the quote screen, which has a limit of its own: the same with 11 directly after the first.
 unfoldable pub screened : (limit n : ℕ) → List Ground → List Ground
@@ -199,6 +207,10 @@ pub record TranchesAccepted (ts : List Tranche) (count : ℕ) : Type 0 where
 pub record LossAccepted (most n p ρ : ℕ) (ts : List Tranche) (count : ℕ) (lengths : List ℕ) : Type 0 where
   pub fill : FillAccepted most n p ρ lengths
   pub tranches : TranchesAccepted ts count
+
+pub record LayerAccepted (most n p ρ i j : ℕ) (lengths : List ℕ) : Type 0 where
+  pub fill : FillAccepted most n p ρ lengths
+  pub layer : LayerInRange n i j
 
 pub record BetaPoolAccepted (most n p ρ : ℕ) : Type 0 where
   pub pool : PoolAccepted most n p ρ

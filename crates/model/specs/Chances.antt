@@ -1,12 +1,13 @@
--- A row of chances in general: the chances of 0 to n defaults, as numerators over one denominator. Tails, mean and tranche losses are defined for
--- any such row, whatever model it comes from.
+-- A row of chances in general: the chances of 0 to n defaults, as numerators over one denominator. Tails, mean and the losses of tranches and layers
+-- are defined for any such row, whatever model it comes from.
 -- Assumes nothing.
-use Prim.Native.Nat.{ℕ, suc, _*_, _-_, _≤_, _<_, min}
+use Prim.Native.Nat.{ℕ, suc, _+_, _*_, _-_, _≤_, _<_, min}
 use mathlib.Core.Path.{_≡_}
 use native.Mathlib.Nat.{mul-pos}
+use native.Mathlib.Omega.{arith}
 use lib.IntN.{ℤ, pos, _-ℤ_, _*ℤ_}
 use Rattle.model.specs.Number.{sum, sumBetween, choose, cut, raise}
-use Rattle.model.specs.Fraction.{Fraction, Same, whole}
+use Rattle.model.specs.Fraction.{Fraction, Same, divided, whole}
 pub mod Laws
 
 pub record Chances : Type 0 where
@@ -78,3 +79,18 @@ expectedLoss r R A B wide = record {
   den = r .denominator * ((B - A) * r .assets);
   positive = mul-pos (r .positive) wide;
 }
+
+-- The sum of m tails from that at i on, over the row's denominator.
+unfoldable pub tailsFrom : (r : Chances) (i m : ℕ) → ℕ
+tailsFrom r i m = sum m (λ t. tailNumerator r (i + t))
+
+-- How many tails the layer from the i-th to the j-th default has, which is never none.
+abbrev pub layerWidth : (i j : ℕ) → ℕ
+layerWidth i j = j - i + 1
+
+pub layer-wide : (i j : ℕ) → 0 < layerWidth i j
+layer-wide i j = omega arith
+
+-- The expected loss of the layer from the i-th to the j-th default: the mean of the tails at i to j.
+unfoldable pub layerLoss : (r : Chances) (i j : ℕ) → Fraction
+layerLoss r i j = divided (share r (tailsFrom r i (layerWidth i j))) (layerWidth i j) (layer-wide i j)

@@ -1,5 +1,6 @@
--- What the calls on a pool promise. Those on its store are in the crate `store`. A record takes what gives the call's refusal, from its inputs, and how far its bounds are
--- apart: for k assets at most one part in g k. What is promised of a column and of a loss is said of a row of chances in general, whatever model it comes from.
+-- What the calls on a pool promise. Those on its store are in the crate `store`. The records of a column and of tranche losses take what gives the call's refusal, from
+-- its inputs, and how far its bounds are apart: for k assets at most one part in g k. What is promised of a column and of a loss is said of a row of chances in general,
+-- whatever model it comes from.
 -- Assumes nothing.
 use Prim.Native.Nat.{ℕ}
 use mathlib.Core.Path.{_≡_}
@@ -15,11 +16,12 @@ use Rattle.steps.specs.Column.{printedRow, tenths}
 use Rattle.steps.specs.declared.Tranche.{Tranche}
 use Rattle.steps.specs.Loss.{LossAnswer}
 use Rattle.steps.specs.Tranches.{lossesAfter}
+use Rattle.steps.specs.Layers.{layerAfter}
 use Rattle.steps.specs.CorrelatedBinomial.{keptDefaults}
-use Rattle.steps.specs.Inputs.{largestPool, tenthsFor}
-use Rattle.steps.specs.Promises.{HoldsColumn, HoldsLosses}
+use Rattle.steps.specs.Inputs.{largestPool, distanceFor, tenthsFor}
+use Rattle.steps.specs.Promises.{HoldsColumn, HoldsLosses, HoldsLayer}
 use Rattle.working.specs.Slices.{entriesAfter}
-use Rattle.grounds.specs.Grounds.{firstGround, columnGrounds, lossGrounds}
+use Rattle.grounds.specs.Grounds.{firstGround, columnGrounds, lossGrounds, layerGrounds}
 use Rattle.store.specs.declared.Pool.{Pool}
 use Rattle.store.specs.Stores.{Store, lengths}
 use Rattle.store.specs.Calls.{Fills}
@@ -36,6 +38,11 @@ pub record PrintsRow (off : Fraction) (r : Chances) (low : ℕ → Kept) (units 
 pub record RepliesLosses (g : ℕ) (r : Chances) (c : Side → ℕ → Kept) (ts : List Tranche) (refusal : ℕ) (losses : List LossAnswer) : Type 0 where
   pub losses-are : losses ≡ lossesAfter (r .assets) c ts refusal
   pub holds-losses : refusal ≡ 0 → HoldsLosses g r c ts losses
+
+-- What a layer call answers, by the number of its refusal, and what holds of the loss.
+pub record RepliesLayer (g : ℕ) (r : Chances) (c : Side → ℕ → Kept) (i j refusal : ℕ) (loss : LossAnswer) : Type 0 where
+  pub loss-is : loss ≡ layerAfter (r .assets) c i j refusal
+  pub holds-loss : refusal ≡ 0 → HoldsLayer g r c i j loss
 
 -- ---- column
 
@@ -60,3 +67,13 @@ pub record Replies
   pub fills : Fills (refuses pool tranches count before) g pool before after refusal
   pub replies : RepliesLosses (g (pool .assets)) (defaults (pool .assets) (pool .probability) (pool .correlation))
       (λ side. keptDefaults side (pool .assets) (pool .probability) (pool .correlation)) (take count tranches) refusal losses
+
+-- ---- layer
+
+unfoldable pub layerRefusal : Pool → (i j : ℕ) → Store → ℕ
+layerRefusal pool i j s = firstGround (layerGrounds largestPool (pool .assets) (pool .probability) (pool .correlation) i j (lengths s))
+
+pub record LayerReplies (pool : Pool) (i j : ℕ) (before after : Store) (refusal : ℕ) (loss : LossAnswer) : Type 0 where
+  pub fills : Fills (layerRefusal pool i j before) distanceFor pool before after refusal
+  pub replies : RepliesLayer (distanceFor (pool .assets)) (defaults (pool .assets) (pool .probability) (pool .correlation))
+      (λ side. keptDefaults side (pool .assets) (pool .probability) (pool .correlation)) i j refusal loss

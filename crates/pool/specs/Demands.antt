@@ -20,7 +20,7 @@ use lib.Ieee.{Float, binary64, toBits}
 use lib.Ieee.Exact.{HasValue}
 use Rattle.model.specs.Number.{sum, integerSum}
 use Rattle.model.specs.Fraction.{Fraction, Same, AtMost, Less, integer, plus, times}
-use Rattle.model.specs.Chances.{Chances, chance, tail, expectedLoss}
+use Rattle.model.specs.Chances.{Chances, chance, tail, expectedLoss, layerLoss}
 use Rattle.model.specs.CorrelatedBinomial.{probability, defaults}
 use Rattle.model.specs.BetaBinomial.{betaProbability, betaDefaults}
 use Rattle.kept.specs.declared.Kept.{Kept}
@@ -28,20 +28,21 @@ use Rattle.kept.specs.declared.Side.{Side}
 use Rattle.kept.specs.declared.Side.the-variants.{Low, High}
 use Rattle.kept.specs.Rounding.{scaled, value}
 use Rattle.steps.specs.CorrelatedBinomial.Rows.{keptRow}
-use Rattle.steps.specs.Chances.{keptTail, keptLoss}
+use Rattle.steps.specs.Chances.{keptTail, keptLoss, keptLayer}
 use Rattle.steps.specs.Column.{printedTail}
 use Rattle.steps.specs.CorrelatedBinomial.{keptDefaults}
 use Rattle.steps.specs.CorrelatedBinomial.Exponents.{PoolNumber}
 use Rattle.steps.specs.BetaBinomial.{keptEntry, keptBetaDefaults, BetaNumber}
 use Rattle.steps.specs.Inputs.{distanceFor}
 use Rattle.steps.specs.declared.Tranche.{Tranche}
-use Rattle.grounds.specs.Grounds.{Ground, firstGround, fillGrounds, rowGrounds, columnGrounds, shiftGrounds, lossGrounds, screenColumnGrounds, screenLossGrounds, Screens, betaColumnGrounds, betaLossGrounds}
+use Rattle.grounds.specs.Grounds.{Ground, firstGround, fillGrounds, rowGrounds, columnGrounds, shiftGrounds, lossGrounds, layerGrounds, screenColumnGrounds, screenLossGrounds, Screens, betaColumnGrounds, betaLossGrounds}
 use Rattle.store.specs.declared.Pool.{Pool}
 use Rattle.store.specs.Stores.{Store, store}
 use Rattle.expected_losses.specs.declared.Loss.{Loss}
 use Rattle.expected_losses.specs.declared.Loss.the-variants.{Untouched, Faint, Shown}
 use Rattle.expected_losses.specs.declared.Answer.{Answer}
 use Rattle.expected_losses.specs.Loss.{lossesIn}
+use Rattle.layer_losses.specs.declared.LayerAnswer.{LayerAnswer}
 use Rattle.pool.specs.Calls.{columnRefusal, Prints, lossRefusal, Replies}
 pub mod Theorems
 
@@ -186,22 +187,33 @@ pub record ShownDemands (low high : Kept) (lower upper : Float) : Type 0 where
   pub lower-is : BitsDemands low lower
   pub upper-is : BitsDemands high upper
 
--- A loss, from the two bounds of step 6. Those of an untouched loss are zero.
+-- A loss, from its two bounds. Those of an untouched loss are zero.
 abbrev pub LossDemands : (low high : Kept) → Loss → Type 0
 LossDemands low high Untouched = (low ≡ keptZero) × (high ≡ keptZero)
 LossDemands low high (Faint number) = FaintDemands low high number
 LossDemands low high (Shown bounds) = ShownDemands low high (bounds .low) (bounds .high)
 
--- Demands 2 and 3 on the loss of a tranche, with its own recovery, of a row of chances in general: the two bounds of step 6 with the exact loss, and the loss that
--- they give. `wide`: what step 6 divides by is above zero.
-module _ (parts : ℕ) (r : Chances) (c : Side → ℕ → Kept) (t : Tranche) where
-  abbrev boundOn : Side → 0 < (t .upper - t .lower) * r .assets → Kept
-  boundOn side wide = keptLoss side (r .assets) (c side) (t .recovery) (t .lower) (t .upper) wide
+-- Demands 2 and 3 on a loss: its bounds on the two sides with its exact value, and the loss that they give.
+pub record AnswerDemands (parts : ℕ) (bound : Side → Kept) (exact : Fraction) (loss : Loss) : Type 0 where
+  pub bounds : BoundDemands parts (bound Low) (bound High) exact
+  pub says : LossDemands (bound Low) (bound High) loss
 
-  pub record TrancheDemands (loss : Loss) : Type 0 where
-    pub wide : 0 < (t .upper - t .lower) * r .assets
-    pub bounds : BoundDemands parts (boundOn Low wide) (boundOn High wide) (expectedLoss r (t .recovery) (t .lower) (t .upper) wide)
-    pub says : LossDemands (boundOn Low wide) (boundOn High wide) loss
+-- Of a tranche, with its own recovery, of a row of chances in general: the bounds are those of step 6. `wide`: what that divides by is above zero.
+pub record TrancheDemands (parts : ℕ) (r : Chances) (c : Side → ℕ → Kept) (t : Tranche) (loss : Loss) : Type 0 where
+  pub wide : 0 < (t .upper - t .lower) * r .assets
+  pub answer : AnswerDemands parts (λ side. keptLoss side (r .assets) (c side) (t .recovery) (t .lower) (t .upper) wide)
+      (expectedLoss r (t .recovery) (t .lower) (t .upper) wide) loss
+
+-- An exact loss is that of the tranche from A to B without recovery.
+pub record LossOfTranche (r : Chances) (exact : Fraction) (A B : ℕ) : Type 0 where
+  pub wide : 0 < (B - A) * r .assets
+  pub same : Same exact (expectedLoss r 0 A B wide)
+
+-- Of the layer from the i-th to the j-th default: the bounds are the tails of step 5 at i up to j, added and divided by j − i + 1, the exact loss is the mean of the exact
+-- tails. That is the loss of the tranche without recovery from 10,000 × (i − 1) / n to 10,000 × j / n, wherever these come out whole.
+pub record LayerLossDemands (parts : ℕ) (r : Chances) (c : Side → ℕ → Kept) (i j : ℕ) (loss : Loss) : Type 0 where
+  pub answer : AnswerDemands parts (λ side. keptLayer side (r .assets) (c side) i j) (layerLoss r i j) loss
+  pub of-tranche : (A B : ℕ) → A * r .assets ≡ 10000 * (i - 1) → B * r .assets ≡ 10000 * j → LossOfTranche r (layerLoss r i j) A B
 
 -- The tranche at a place of those that are given, and the loss at a place of an answer.
 abbrev pub givenAt : List Tranche → ℕ → Tranche
@@ -219,7 +231,7 @@ pub record LossesDemands (parts : ℕ) (r : Chances) (c : Side → ℕ → Kept)
   pub refused : (answer .refusal ≡ 0 → ⊥) → (i : ℕ) → i < 8 → lossAt answer i ≡ Untouched
 
 -- What steps 4 to 6 make for n assets, of a row of chances in general: bounds of the chances and of the tails; and no number that is made, those of the entries
--- before and of the losses after included, has an exponent below −80,000 or above 100.
+-- before and of the losses of tranches and layers after included, has an exponent below −80,000 or above 100.
 pub record StepsDemands (parts n : ℕ) (r : Chances) (c : Side → ℕ → Kept) (Made : Side → Kept → Type 0) : Type 0 where
   pub chances : (j : ℕ) → j ≤ n → BoundDemands parts (c Low j) (c High j) (chance r j)
   pub tails : (k : ℕ) → BoundDemands parts (keptTail Low n (c Low) k) (keptTail High n (c High) k) (tail r k)
@@ -309,6 +321,14 @@ module _ (pool : Pool) where
     pub list : refusal ≡ 0
         → Demand3Shifts n (lowTails ρ) (lowTails 0) (printedTail n (keptDefaults Low n p ρ)) (printedTail n (keptDefaults Low n p 0))
         (tail (defaults n p ρ)) (tail (defaults n p 0)) shifts′
+
+  -- The layer call. The layer of all defaults loses p.
+  pub record LayerDemands (i j : ℕ) (before after : Slices) (answer : LayerAnswer) : Type 0 where
+    pub one : Demand1 (layerGrounds 100 n p ρ i j (lengthsOf before)) (answer .refusal) before after
+    pub store : StoreDemands partsFor before after (answer .refusal)
+    pub layer : answer .refusal ≡ 0 → LayerLossDemands (partsFor n) (defaults n p ρ) (λ side. keptDefaults side n p ρ) i j (answer .loss)
+    pub of-all : answer .refusal ≡ 0 → Same (layerLoss (defaults n p ρ) 1 n) (record { num = p; den = 10000; positive = lit< tt })
+    pub refused : (answer .refusal ≡ 0 → ⊥) → answer .loss ≡ Untouched
 
   module _ (tranches : List Tranche) (count : ℕ) where
     -- Of a loss call, by how far its bounds are apart and by its grounds.

@@ -1,6 +1,7 @@
-// The calls on a pool: fill a store of chances, read a row of it, print a column, work out tranche losses. Any numbers and slices of
-// any length may be given. A call answers, or refuses by the number of the first ground that applies and leaves every slice
-// untouched.
+// The calls on a pool: fill a store of chances, read a row of it, print a column, work out the losses of tranches and that of a
+// layer by number of defaults. Any numbers and slices of any length may be given. A call answers, or refuses by the number of the
+// first ground that applies and leaves every slice untouched.
+mod layers;
 mod losses;
 mod printing;
 
@@ -8,6 +9,8 @@ pub use expected_losses::Answer;
 pub use expected_losses::Bounds;
 pub use expected_losses::Loss;
 pub use expected_losses::TrancheLoss;
+pub use layer_losses::LayerAnswer;
+pub use layers::layer_loss;
 pub use losses::tranche_losses;
 pub use printing::column;
 pub use steps::TRANCHES;

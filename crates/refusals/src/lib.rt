@@ -15,7 +15,7 @@ use steps::Tranche;
 ghost use mathlib.Core.Path.{_≡_};
 ghost use mathlib.Core.List.{[], _∷_};
 ghost use Rattle.grounds.specs.Grounds.{firstGround, fourLengths, assetsGround, screenGround};
-ghost use Rattle.grounds.specs.Grounds.{fillGrounds, rowGrounds, entriesGrounds, columnGrounds, shiftGrounds, lossGrounds};
+ghost use Rattle.grounds.specs.Grounds.{fillGrounds, rowGrounds, entriesGrounds, columnGrounds, shiftGrounds, lossGrounds, layerGrounds};
 ghost use Rattle.grounds.specs.Grounds.{betaPoolGrounds, betaColumnGrounds, betaLossGrounds};
 
 // 1 and 11: what the quote screen, which has a limit of its own, checks first.
@@ -86,6 +86,15 @@ pub fn loss_refusal(
     let of_tranches = tranches_refusal(tranches, count);
     let of_store = store_refusal(n, lengths);
     first(of_pool, first(of_tranches, of_store))
+}
+
+pub fn layer_refusal(most: u32, n: u32, p: u32, rho: u32, i: u32, j: u32, lengths: Lengths) -> u32
+    ensures { λ r. ⌜ r ≡ firstGround (layerGrounds most n p rho i j (fourLengths lengths)) ⌝ }
+{
+    let of_pool = pool_refusal(most, n, p, rho);
+    let of_layer = ground(14, (i == 0) | (i > j) | (j > n));
+    let of_store = store_refusal(n, lengths);
+    first(of_pool, first(of_layer, of_store))
 }
 
 // 1 to 3 and 12.

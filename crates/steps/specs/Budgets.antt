@@ -21,6 +21,10 @@ tailBudget n b = b + suc n
 unfoldable pub lossBudget : (n b : ℕ) → ℕ
 lossBudget n b = b + 1 + suc n + 1
 
+-- A layer, from such chances: the tails, at most n + 1 sums of them, a quotient. It is the largest of these budgets.
+unfoldable pub layerBudget : (n b : ℕ) → ℕ
+layerBudget n b = tailBudget n b + suc n + 1
+
 -- Chances c of either side, each within b parts of that of the row r.
 pub record Bounded (b : ℕ) (r : Chances) (c : Side → ℕ → Kept) : Type 0 where
   pub bound : (side : Side) (j : ℕ) → j ≤ r .assets → Bound side b (c side j) (chance r j)
@@ -31,7 +35,7 @@ pub record WithinBudget (b : ℕ) (r : Chances) (v : ℕ → Fraction) (entry : 
   pub complete : Complete r
   pub entries : (side : Side) (j : ℕ) → j ≤ r .assets → Bound side b (entry side j) (v j)
   pub counted : (j : ℕ) → j ≤ r .assets → Same (times (integer (choose (r .assets) j)) (v j)) (chance r j)
-  pub parts : lossBudget (r .assets) (chanceBudget (r .assets) b) * 2 ≤ precision
+  pub parts : layerBudget (r .assets) (chanceBudget (r .assets) b) * 2 ≤ precision
   pub assets : r .assets ≤ 100
 
 -- What the range of the exponents also rests on: values of at most one, and no denominator above 2^m, so that none of a number that is made is above 2^79,968.

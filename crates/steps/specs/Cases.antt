@@ -1,5 +1,5 @@
--- Pools of 3 assets and of 2 by the steps, digit for digit; for p = 1000 and ρ = 3000 the column that the scope paper prints, and the shift list. The digits were
--- worked out in exact fractions by tools/steps_figures.py.
+-- Pools of 3 assets and of 2 by the steps, with layers, digit for digit; for p = 1000 and ρ = 3000 the column that the scope paper prints, and the shift list. The
+-- digits were worked out in exact fractions by tools/steps_figures.py.
 -- Assumes nothing.
 use Prim.Native.Nat.{ℕ, _-_, _*_, _≤_, _<_}
 use mathlib.Core.Path.{_≡_, refl}
@@ -21,7 +21,7 @@ use Rattle.steps.specs.CorrelatedBinomial.Rows.{constant, keptConditiona
 use Rattle.steps.specs.Inputs.{upTo}
 use Rattle.steps.specs.Inputs.Laws.{up-to}
 use Rattle.steps.specs.Counts.{exactAssets, summedCount, keptCount}
-use Rattle.steps.specs.Chances.{keptTotal, keptChance, keptChances, keptTail, keptTerm, keptLoss}
+use Rattle.steps.specs.Chances.{keptTotal, keptChance, keptChances, keptTail, keptTerm, keptLoss, keptLayer}
 use Rattle.steps.specs.Column.{unitsOfCertainty, exactUnits, half, inUnits, printedTail, printedRow}
 use Rattle.steps.specs.Shifts.{tailShift}
 use Rattle.steps.specs.CorrelatedBinomial.{keptDefaults}
@@ -45,6 +45,10 @@ printedOf n p ρ k = printedTail n (keptDefaults Low n p ρ) k
 
 abbrev rowOf : (n p ρ k : ℕ) → ℕ
 rowOf n p ρ k = printedRow n (keptDefaults Low n p ρ) k
+
+-- The layer from the i-th to the j-th default.
+abbrev layerOf : (n p ρ i j : ℕ) → (side : Side) → Kept
+layerOf n p ρ i j side = keptLayer side n (keptDefaults side n p ρ) i j
 
 -- Of three assets with p = 1000 and ρ = 3000: a tranche with recovery 4000, and the printed tail at k less that without correlation.
 abbrev threeLoss : (A B : ℕ) → 0 < (B - A) * 3 → (side : Side) → Kept
@@ -83,8 +87,12 @@ pub cases :
     × (threeShift 1 ≡ negsuc 6131)
     × (threeShift 2 ≡ pos 4163)
     × (threeShift 3 ≡ pos 1968)
+    × Digits (layerOf 3 1000 3000 1 3) 3435973829 3435973844 34
+    × Digits (layerOf 3 1000 3000 2 3) 3103268484 3103268496 35
+    × Digits (layerOf 3 1000 3000 3 3) 2842649870 2842649879 36
     -- Here the order of the sums shows in the last digit.
     × Digits (tailOf 3 500 500 1) 2337669897 2337669905 33
+    × Digits (layerOf 3 500 500 1 3) 3435973830 3435973846 35
     -- A tranche that defaults reach, one that none reaches, and a high bound of 2^−870 with a low bound of zero.
     × (lossAnswer (threeLoss 1000 3000 (lit< tt) Low) (threeLoss 1000 3000 (lit< tt) High) ≡ shown (toBinary64 (figure 2399314755 33)) (toBinary64 (figure 2399314766 33)))
     × (lossAnswer (threeLoss 6000 10000 (lit< tt) Low) (threeLoss 6000 10000 (lit< tt) High) ≡ untouched)
@@ -110,7 +118,7 @@ pub cases :
     × (keptRow Low 0 3000 1 1 ≡ record { significand = 0; exponent = pos 0 })
     × (keptRow High 0 3000 1 1 ≡ record { significand = 0; exponent = pos 0 })
     × Digits (λ side. keptRow side 0 3000 1 0) 2147483648 2147483648 30
-unfolding scaled nought unity increment carry round roundedProduct roundedSum roundedQuotient ofInteger ofBasisPoints size choose raise integer plus times divided whole complement over pascalRow pass passed lossAbove lossUnits constant keptConditional keptJoint keptPower keptWeight keptPassStep keptRow keptTotal upTo exactAssets summedCount keptCount keptChance keptChances keptTail keptTerm keptLoss unitsOfCertainty exactUnits half wholeOf inUnits printedTail printedRow tailShift keptDefaults leastShown belowShown keptLeastShown raisedToShown lossAnswer
+unfolding scaled nought unity increment carry round roundedProduct roundedSum roundedQuotient ofInteger ofBasisPoints size choose raise integer plus times divided whole complement over pascalRow pass passed lossAbove lossUnits constant keptConditional keptJoint keptPower keptWeight keptPassStep keptRow keptTotal upTo exactAssets summedCount keptCount keptChance keptChances keptTail keptTerm keptLoss keptLayer unitsOfCertainty exactUnits half wholeOf inUnits printedTail printedRow tailShift keptDefaults leastShown belowShown keptLeastShown raisedToShown lossAnswer
 cases = (
   (refl, refl),
   (refl, refl),
@@ -141,6 +149,10 @@ cases = (
   refl,
   refl,
   refl,
+  (refl, refl),
+  (refl, refl),
+  (refl, refl),
+  (refl, refl),
   (refl, refl),
   refl,
   refl,

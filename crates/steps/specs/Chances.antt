@@ -1,8 +1,8 @@
--- Steps 4 to 6: chances, tails and tranche losses in kept numbers, for one side, from a row of entries that bound P(0,n) to P(n,n), whatever model they
--- come from. Each product, sum and quotient is rounded once.
+-- Steps 4 to 6, and layers: chances, tails and the losses of tranches and layers in kept numbers, for one side, from a row of entries that bound P(0,n) to P(n,n),
+-- whatever model they come from. Each product, sum and quotient is rounded once.
 -- Assumes nothing.
-use Prim.Native.Nat.{ℕ, zero, suc, _-_, _*_, _<_}
-use Rattle.model.specs.Chances.{lossUnits}
+use Prim.Native.Nat.{ℕ, zero, suc, _+_, _-_, _*_, _<_}
+use Rattle.model.specs.Chances.{lossUnits, layerWidth, layer-wide}
 use Rattle.kept.specs.declared.Kept.{Kept}
 use Rattle.kept.specs.declared.Side.{Side}
 use Rattle.kept.specs.Rounding.{nought, ofInteger, roundedProduct, roundedSum, roundedQuotient}
@@ -37,3 +37,8 @@ module _ (side : Side) where
         -- Starting from zero, the products are added for X = 0 up to n; the total is divided by (B − A) × n.
         unfoldable pub keptLoss : 0 < (B - A) * n → Kept
         keptLoss wide = roundedQuotient side (keptTotal keptTerm (suc n)) ((B - A) * n) wide
+
+      module _ (i j : ℕ) where
+        -- The layer from the i-th to the j-th default. Starting from zero, the tails at i up to j are added; the total is divided by their number.
+        unfoldable pub keptLayer : Kept
+        keptLayer = roundedQuotient side (keptTotal (λ t. keptTail (i + t)) (layerWidth i j)) (layerWidth i j) (layer-wide i j)

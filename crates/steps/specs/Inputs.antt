@@ -1,4 +1,4 @@
--- The limits on the number of assets, how far bounds, printed rows and shifts may be off for so many, and what the inputs of a pool and of a tranche are.
+-- The limits on the number of assets, how far bounds, printed rows and shifts may be off for so many, and what the inputs of a pool, of a tranche and of a layer are.
 -- Assumes nothing.
 use Prim.Native.Nat.{ℕ, _≤_, _<_}
 use mathlib.Core.Bool.{cond}
@@ -61,3 +61,9 @@ pub record TrancheInRange (R A B : ℕ) : Type 0 where
   pub recovery : R ≤ whole
   pub upper : B ≤ whole
   pub lower : A < B
+
+-- A layer from the i-th to the j-th default of n assets.
+pub record LayerInRange (n i j : ℕ) : Type 0 where
+  pub from : 1 ≤ i
+  pub order : i ≤ j
+  pub to : j ≤ n

@@ -6,6 +6,7 @@ pub mod Column
 pub mod Shifts
 pub mod Loss
 pub mod Tranches
+pub mod Layers
 pub mod Enclosure
 pub mod Exponents
 pub mod Numbers

@@ -1,4 +1,4 @@
--- The answer to a tranche loss, from the low and the high side of step 6.
+-- The answer to a loss, from its bounds on the low and the high side.
 -- Assumes nothing.
 use Prim.Native.Nat.{ℕ, _^_}
 use mathlib.Core.Path.{_≡_}
@@ -53,7 +53,7 @@ pub record SaysFaint (low high : Kept) (v : Fraction) (number : Float) : Type 0 
 pub record SaysShown (g : ℕ) (low high : Kept) (v : Fraction) (lower upper : Float) : Type 0 where
   pub low-not-below : AtMost leastShown (value low)
   pub high-not-zero : high ≡ nought → ⊥
-  -- The two numbers are the bounds of step 6, exactly.
+  -- The two numbers are the bounds, exactly.
   pub lower-is : IsBinary64 low lower
   pub upper-is : IsBinary64 high upper
   pub enclosed : Enclosed g low high v

@@ -7,11 +7,11 @@ use lib.ListN.{length, getD}
 use lib.IntN.{ℤ, pos, natAbs}
 use Rattle.model.specs.Number.{sum, integerSum}
 use Rattle.model.specs.Fraction.{Fraction, Less, integer, plus, times, whole}
-use Rattle.model.specs.Chances.{Chances, chance, tail, expectedLoss}
+use Rattle.model.specs.Chances.{Chances, chance, tail, expectedLoss, layerLoss}
 use Rattle.kept.specs.declared.Kept.{Kept}
 use Rattle.kept.specs.declared.Side.{Side}
 use Rattle.kept.specs.declared.Side.the-variants.{Low, High}
-use Rattle.steps.specs.Chances.{keptTail, keptLoss}
+use Rattle.steps.specs.Chances.{keptTail, keptLoss, keptLayer}
 use Rattle.steps.specs.Column.{unitsOfCertainty, printedTail, exactUnits, Within}
 use Rattle.steps.specs.Shifts.{tailShift}
 use Rattle.steps.specs.Enclosure.{Enclosed}
@@ -21,7 +21,7 @@ use Rattle.steps.specs.Loss.{LossAnswer, untouched, lossAnswer, Says}
 use Rattle.steps.specs.Tranches.{trancheAt}
 pub mod Laws
 
--- The bounds of chances, tails and tranche losses enclose the exact values and are at most one part in g apart.
+-- The bounds of chances, tails and the losses of tranches and layers enclose the exact values and are at most one part in g apart.
 pub record RowEnclosed (g : ℕ) (r : Chances) (c : Side → ℕ → Kept) : Type 0 where
   -- Step 4, with the chance of j defaults in any order.
   pub chances : {j : ℕ} → j ≤ r .assets → Enclosed g (c Low j) (c High j) (chance r j)
@@ -30,6 +30,8 @@ pub record RowEnclosed (g : ℕ) (r : Chances) (c : Side → ℕ → Kept) : Typ
   -- Step 6, with the expected loss of a tranche.
   pub losses : (R A B : ℕ) → B ≤ whole → (wide : 0 < (B - A) * r .assets)
       → Enclosed g (keptLoss Low (r .assets) (c Low) R A B wide) (keptLoss High (r .assets) (c High) R A B wide) (expectedLoss r R A B wide)
+  -- The layer from the i-th to the j-th default, with the mean of the tails at i to j.
+  pub layers : (i j : ℕ) → j ≤ r .assets → Enclosed g (keptLayer Low (r .assets) (c Low) i j) (keptLayer High (r .assets) (c High) i j) (layerLoss r i j)
 
 -- What holds of all that the steps make: such bounds, and for every number that is made an exponent from −80,000 to 100.
 pub record HoldsSteps (g : ℕ) (r : Chances) (c : Side → ℕ → Kept) (Made : Side → Kept → Type 0) : Type 0 where
@@ -55,20 +57,24 @@ pub record HoldsShifts (off : Fraction) (r s : Chances) (low base : ℕ → Kept
       → Within off (plus (integer (printedTail (r .assets) low k)) (exactUnits (tail s k))) (plus (integer (printedTail (r .assets) base k)) (exactUnits (tail r k)))
   pub total : Less (integer (natAbs (integerSum (r .assets) (λ i. getD shifts (suc i) (pos 0))))) (times (integer (r .assets)) off)
 
--- What holds of a tranche loss that is answered: it is the one that the bounds of step 6 give, which enclose the exact loss and are at most one part in g apart;
--- and what its case says of them.
-module _ (g : ℕ) (r : Chances) (c : Side → ℕ → Kept) (R A B : ℕ) (wide : 0 < (B - A) * r .assets) where
-  abbrev lossOn : Side → Kept
-  lossOn side = keptLoss side (r .assets) (c side) R A B wide
+-- What holds of a loss that is answered, from its bounds on the two sides and its exact value v: it is the one that the bounds give, which enclose v and are at most
+-- one part in g apart; and what its case says of them.
+pub record HoldsLoss (g : ℕ) (bound : Side → Kept) (v : Fraction) (loss : LossAnswer) : Type 0 where
+  pub answer-is : loss ≡ lossAnswer (bound Low) (bound High)
+  pub enclosed : Enclosed g (bound Low) (bound High) v
+  pub says : Says g (bound Low) (bound High) v loss
 
-  pub record HoldsLoss (loss : LossAnswer) : Type 0 where
-    pub answer-is : loss ≡ lossAnswer (lossOn Low) (lossOn High)
-    pub enclosed : Enclosed g (lossOn Low) (lossOn High) (expectedLoss r R A B wide)
-    pub says : Says g (lossOn Low) (lossOn High) (expectedLoss r R A B wide) loss
+-- Of a tranche, with the bounds of step 6; and of the layer from the i-th to the j-th default.
+abbrev pub HoldsTranche : (g : ℕ) (r : Chances) (c : Side → ℕ → Kept) (t : Tranche) → 0 < (t .upper - t .lower) * r .assets → LossAnswer → Type 0
+HoldsTranche g r c t wide =
+    HoldsLoss g (λ side. keptLoss side (r .assets) (c side) (t .recovery) (t .lower) (t .upper) wide) (expectedLoss r (t .recovery) (t .lower) (t .upper) wide)
+
+abbrev pub HoldsLayer : (g : ℕ) (r : Chances) (c : Side → ℕ → Kept) (i j : ℕ) → LossAnswer → Type 0
+HoldsLayer g r c i j = HoldsLoss g (λ side. keptLayer side (r .assets) (c side) i j) (layerLoss r i j)
 
 -- What holds of the losses that stand at the places of tranches: of each tranche, with its own recovery, what holds of its loss; past them each is untouched.
 pub record HoldsLosses (g : ℕ) (r : Chances) (c : Side → ℕ → Kept) (ts : List Tranche) (losses : List LossAnswer) : Type 0 where
   pub wide : (i : ℕ) → i < length ts → 0 < (trancheAt ts i .upper - trancheAt ts i .lower) * r .assets
   pub loss : (i : ℕ) → i < length ts → (wide : 0 < (trancheAt ts i .upper - trancheAt ts i .lower) * r .assets)
-      → HoldsLoss g r c (trancheAt ts i .recovery) (trancheAt ts i .lower) (trancheAt ts i .upper) wide (getD losses i untouched)
+      → HoldsTranche g r c (trancheAt ts i) wide (getD losses i untouched)
   pub past : (i : ℕ) → length ts ≤ i → getD losses i untouched ≡ untouched

@@ -1,5 +1,5 @@
 // The calls under C names, for the programs of tools/random_calls. Numbers pass as themselves, a slice as a pointer and a length, an
-// array by a pointer.
+// array, and a number that is written, by a pointer.
 use pool::Answer;
 use pool::Loss;
 use pool::Pool;
@@ -270,6 +270,39 @@ pub extern "C" fn trial_beta_losses(
     let pool = pool_of(assets, probability, correlation);
     let answer = beta_binomial::tranche_losses(pool, tranches_of(records), count);
     write_answer(answer, kinds, firsts, seconds)
+}
+
+// Writes the loss, and gives the number of the refusal, or 0.
+#[no_mangle]
+pub extern "C" fn trial_layer_loss(
+    assets: u32,
+    probability: u32,
+    correlation: u32,
+    i: u32,
+    j: u32,
+    low_significands: &mut [u32],
+    high_significands: &mut [u32],
+    low_exponents: &mut [i32],
+    high_exponents: &mut [i32],
+    kind: &mut u32,
+    first: &mut f64,
+    second: &mut f64,
+) -> u32 {
+    let answer = pool::layer_loss(
+        pool_of(assets, probability, correlation),
+        i,
+        j,
+        low_significands,
+        high_significands,
+        low_exponents,
+        high_exponents,
+    );
+    let loss = answer.loss;
+    let numbers = numbers_of(loss);
+    *kind = numbers.kind;
+    *first = numbers.first;
+    *second = numbers.second;
+    answer.refusal
 }
 
 // The reply of the program `column` to an input, and its length.

@@ -1,4 +1,4 @@
-// Random pools and tranches.
+// Random pools, tranches and layers.
 use pool::Pool;
 use pool::Tranche;
 use trial_lines::Call;
@@ -15,7 +15,7 @@ use trial_support::next;
 
 // Which calls are run: fill, column and loss; the shift list; column and loss of pools of 1 to 20 assets, by the library and on the
 // screen; column and loss of the beta-binomial; the losses of several tranches by each library; column and losses by both
-// models, of pools of 65 to 100 assets.
+// models, of pools of 65 to 100 assets; a layer of a pool and of one of 65 to 100 assets.
 pub enum Calls {
     Library,
     Shifts,
@@ -23,6 +23,7 @@ pub enum Calls {
     Beta,
     Losses,
     Large,
+    Layers,
 }
 
 // The random word so many words later.
@@ -164,6 +165,21 @@ fn random_tranches(word: u64) -> Tranches {
     }
 }
 
+// From 0 to one more than there are assets, of which there are fewer than 128.
+fn default_number(word: u64, assets: u32) -> u32 {
+    ((word >> 8) % 0x1_0000_0000) as u32 % (assets % 128 + 2)
+}
+
+// Two numbers that do not depend on each other; seven pairs in eight are put in order.
+fn random_layer(word: u64, assets: u32) -> Call {
+    let i = default_number(word, assets);
+    let j = default_number(next(word), assets);
+    if (i > j) & (word % 8 != 0) {
+        return Call::Layer(j, i);
+    }
+    Call::Layer(i, j)
+}
+
 fn run_losses(pool: Pool, small: Pool, tranches: Tranches) {
     run_ample(Call::Losses(Library::Pool, tranches), pool);
     run_ample(Call::Losses(Library::Screen, tranches), small);
@@ -175,6 +191,10 @@ fn run_large(pool: Pool, tranches: Tranches) {
     run_ample(Call::Column(Library::BetaBinomial, LARGE_ROWS), pool);
     run_ample(Call::Losses(Library::Pool, tranches), pool);
     run_ample(Call::Losses(Library::BetaBinomial, tranches), pool);
+}
+
+fn run_layer(pool: Pool, word: u64) {
+    run_ample(random_layer(word, pool.assets), pool);
 }
 
 fn run_calls(calls: Calls, word: u64) {
@@ -201,6 +221,10 @@ fn run_calls(calls: Calls, word: u64) {
         }
         Calls::Losses => run_losses(pool, small, random_tranches(fourth)),
         Calls::Large => run_large(large_pool(word), random_tranches(fourth)),
+        Calls::Layers => {
+            run_layer(pool, fourth);
+            run_layer(large_pool(word), fourth);
+        }
     }
 }
 

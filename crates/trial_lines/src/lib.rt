@@ -33,7 +33,7 @@ pub enum Library {
 }
 
 // A call, with what it takes beside the pool and the store: the number of a row, how many places of a column or of a shift list
-// are lent, one tranche, several tranches.
+// are lent, one tranche, several tranches, the first and the last default of a layer.
 pub enum Call {
     Fill,
     Row(u32),
@@ -41,6 +41,7 @@ pub enum Call {
     Shifts(usize),
     Loss(Library, Tranche),
     Losses(Library, Tranches),
+    Layer(u32, u32),
 }
 
 pub fn pool_of(assets: u32, probability: u32, correlation: u32) -> Pool {
@@ -100,6 +101,12 @@ fn write_call(call: Call, pool: Pool) {
             write(b"losses");
             write_pool(pool);
             write_tranches(tranches);
+        }
+        Call::Layer(i, j) => {
+            write(b"layer");
+            write_pool(pool);
+            write_field(i);
+            write_field(j);
         }
     }
 }

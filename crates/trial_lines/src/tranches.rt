@@ -1,6 +1,7 @@
-// The tranches of a loss call, made and written, and its answer, written.
+// The tranches of a loss call, made and written; its answer, and that of a layer call, written.
 use crate::write_refusal;
 use pool::Answer;
+use pool::LayerAnswer;
 use pool::Loss;
 use pool::TRANCHES;
 use pool::Tranche;
@@ -154,7 +155,7 @@ fn write_loss(loss: Loss) {
     }
 }
 
-// Nothing at a place past the count that is untouched, as it has to be.
+// Nothing where the loss is untouched, as it has to be past the count, and of a layer on a refusal.
 fn write_past(loss: Loss) {
     match loss {
         Loss::Untouched => write(b""),
@@ -173,16 +174,28 @@ fn write_place(loss: Loss, within: bool) {
     }
 }
 
-// The refusal, or the losses within the count.
-pub fn write_answer(answer: Answer, count: u32) {
-    let refusal = answer.refusal;
+fn write_refused(refusal: u32) {
     if refusal != 0 {
         write_refusal(refusal);
     }
+}
+
+// The refusal, or the losses within the count.
+pub fn write_answer(answer: Answer, count: u32) {
+    let refusal = answer.refusal;
+    write_refused(refusal);
     let losses = answer.losses;
     for i in 0..TRANCHES {
         let place = losses[i];
         let loss = place.loss;
         write_place(loss, (refusal == 0) & ((i as u32) < count));
     }
+}
+
+// The refusal, or the loss.
+pub fn write_layer(answer: LayerAnswer) {
+    let refusal = answer.refusal;
+    write_refused(refusal);
+    let loss = answer.loss;
+    write_place(loss, refusal == 0);
 }

@@ -15,6 +15,7 @@ use trial_lines::tranches::Tranches;
 use trial_lines::tranches::array_of;
 use trial_lines::tranches::one;
 use trial_lines::tranches::write_answer;
+use trial_lines::tranches::write_layer;
 use trial_lines::write_column;
 use trial_lines::write_given;
 use trial_lines::write_length;
@@ -248,6 +249,15 @@ fn answer(
             low_exponents,
             high_exponents,
         ),
+        Call::Layer(i, j) => write_layer(pool::layer_loss(
+            pool,
+            i,
+            j,
+            low_significands,
+            high_significands,
+            low_exponents,
+            high_exponents,
+        )),
         _ => answer_library(
             call,
             pool,

@@ -21,6 +21,7 @@ use Rattle.steps.specs.Tranches.{tranchePlaces, trancheAt}
 use Rattle.grounds.specs.Grounds.{Ground, firstOf, firstGround, storePlaces, someShorter, assetsGround, probabilityGround, correlationGround}
 use Rattle.grounds.specs.Grounds.{recoveryGround, upperGround, attachmentsGround, storeGround, entriesGround, rowGround, screenGround, fullCorrelationGround}
 use Rattle.grounds.specs.Grounds.{countGround, poolGrounds, trancheGrounds, tranchesGrounds, countedGrounds, fillGrounds, rowGrounds, entriesGrounds, columnGrounds, lossGrounds}
+use Rattle.grounds.specs.Grounds.{layerGround, layerGrounds, LayerAccepted}
 use Rattle.grounds.specs.Grounds.{screened, Screens, betaPoolGrounds, betaColumnGrounds, betaLossGrounds}
 use Rattle.grounds.specs.Grounds.{PoolAccepted, EachAtLeast, FillAccepted, RowAccepted, EntriesAccepted, TranchesAccepted, LossAccepted}
 use Rattle.grounds.specs.Grounds.{BetaPoolAccepted, BetaColumnAccepted, BetaLossAccepted}
@@ -162,11 +163,17 @@ unfolding storeGround
 store-accepted n lengths is none =
     rw store-places at (each-at-least (storePlaces n) lengths (none-applies (storeGround n lengths ∷ []) tt is none .0))
 
+-- Of a call that checks grounds of its own between those of the pool and that of the store.
+between-accepted : {r : ℕ} (most n p ρ : ℕ) (own : List Ground) (lengths : List ℕ)
+    → r ≡ firstGround (poolGrounds most n p ρ ++ (own ++ (storeGround n lengths ∷ []))) → r ≡ 0 → FillAccepted most n p ρ lengths × (firstGround own ≡ 0)
+between-accepted most n p ρ own lengths is none =
+    let parts = none-of-both (poolGrounds most n p ρ) (own ++ (storeGround n lengths ∷ [])) is none in
+    let rest = none-of-both own (storeGround n lengths ∷ []) refl (parts .1) in
+    (record { pool = pool-accepted most n p ρ refl (parts .0); store = store-accepted n lengths refl (rest .1) }, rest .0)
+
 pub fill-accepted : {r : ℕ} (most n p ρ : ℕ) (lengths : List ℕ) → r ≡ firstGround (fillGrounds most n p ρ lengths) → r ≡ 0 → FillAccepted most n p ρ lengths
 unfolding fillGrounds
-fill-accepted most n p ρ lengths is none =
-    let parts = none-of-both (poolGrounds most n p ρ) (storeGround n lengths ∷ []) is none in
-    record { pool = pool-accepted most n p ρ refl (parts .0); store = store-accepted n lengths refl (parts .1) }
+fill-accepted most n p ρ lengths is none = between-accepted most n p ρ [] lengths is none .0
 
 pub row-accepted : {r : ℕ} (most n k length : ℕ) → r ≡ firstGround (rowGrounds most n k length) → r ≡ 0 → RowAccepted n k length
 unfolding rowGrounds assetsGround storeGround rowGround
@@ -215,12 +222,18 @@ pub loss-accepted : {r : ℕ} (most n p ρ : ℕ) (ts : List Tranche) (count : �
     → r ≡ firstGround (lossGrounds most n p ρ ts count lengths) → r ≡ 0 → LossAccepted most n p ρ ts count lengths
 unfolding lossGrounds
 loss-accepted most n p ρ ts count lengths is none =
-    let parts = none-of-both (poolGrounds most n p ρ) (countedGrounds ts count ++ (storeGround n lengths ∷ [])) is none in
-    let rest = none-of-both (countedGrounds ts count) (storeGround n lengths ∷ []) refl (parts .1) in
-    record {
-      fill = record { pool = pool-accepted most n p ρ refl (parts .0); store = store-accepted n lengths refl (rest .1) };
-      tranches = tranches-accepted ts count refl (rest .0);
-    }
+    let parts = between-accepted most n p ρ (countedGrounds ts count) lengths is none in
+    record { fill = parts .0; tranches = tranches-accepted ts count refl (parts .1) }
+
+pub layer-accepted : {r : ℕ} (most n p ρ i j : ℕ) (lengths : List ℕ) → r ≡ firstGround (layerGrounds most n p ρ i j lengths) → r ≡ 0
+    → LayerAccepted most n p ρ i j lengths
+unfolding layerGrounds layerGround
+layer-accepted most n p ρ i j lengths is none =
+    let parts = between-accepted most n p ρ (layerGround n i j ∷ []) lengths is none in
+    let off = neither (eqb i 0 || ltb j i) (ltb n j) (none-applies (layerGround n i j ∷ []) tt refl (parts .1) .0) in
+    let start = neither (eqb i 0) (ltb j i) (off .0) in
+    let not-zero = eqb-false i 0 (start .0) in
+    record { fill = parts .0; layer = record { from = omega arith; order = ltb-false j i (start .1); to = ltb-false n j (off .1) } }
 
 pub beta-pool-accepted : {r : ℕ} (most n p ρ : ℕ) → r ≡ firstGround (betaPoolGrounds most n p ρ) → r ≡ 0 → BetaPoolAccepted most n p ρ
 unfolding betaPoolGrounds fullCorrelationGround

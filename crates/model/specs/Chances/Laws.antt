@@ -1,15 +1,16 @@
--- Laws of tails, mean and expected loss, and of the same chances over another denominator, for a row of chances in general.
+-- Laws of tails, mean and expected losses, and of the same chances over another denominator, for a row of chances in general.
 -- Assumes nothing.
 use Prim.Native.Nat.{ℕ, zero, suc, _+_, _*_, _-_, _≤_, _<_, min}
-use mathlib.Core.Path.{_≡_, refl, ap, _∙_}
+use mathlib.Core.Path.{_≡_, refl, sym, ap, _∙_}
 use native.Mathlib.Omega.{arith}
 use native.Mathlib.Decide.{decLe}
-use native.Mathlib.Nat.{add-zero, zero-add, add-suc, sub-zero, sub-eq-zero-of-le, add-sub-of-le, le-refl, le-trans, le-of-suc-le-suc, min-le-right, mul-comm, mul-pos, mul-le-mul-left, mul-le-mul-right, eq-of-mul-eq-mul-right}
+use native.Mathlib.Nat.{add-zero, zero-add, add-suc, suc-add, sub-zero, sub-eq-zero-of-le, add-sub-of-le, le-refl, le-trans, le-of-suc-le-suc, min-le-right, mul-comm, mul-sub, mul-pos, mul-le-mul-left, mul-le-mul-right, eq-of-mul-eq-mul-right}
 use lib.IntN.{pos, _-ℤ_, _*ℤ_}
 use Rattle.model.specs.Number.{sum, sumBetween, raise}
-use Rattle.model.specs.Number.Laws.{sum-as, sum-last, between-first, between-none, between-total, raised-cut, raised-minus, raised-times}
-use Rattle.model.specs.Fraction.{Same, AtMost, certainty, whole, complement}
-use Rattle.model.specs.Chances.{Chances, Complete, SameChances, share, chance, tailNumerator, tail, mean, tailsTotal, lossAbove, lossUnits, lossUnitsCutFirst, lossNumerator, expectedLoss}
+use Rattle.model.specs.Number.Laws.{sum-mono, sum-cong, sum-const, sum-times, sum-as, sum-last, between-first, between-none, between-cut, between-total, raised-cut, raised-minus, raised-times}
+use Rattle.model.specs.Fraction.{Same, AtMost, certainty, divided, whole, complement, over}
+use Rattle.model.specs.Fraction.Laws.{same-trans}
+use Rattle.model.specs.Chances.{Chances, Complete, SameChances, share, chance, tailNumerator, tail, mean, tailsTotal, lossAbove, lossUnits, lossUnitsCutFirst, lossNumerator, expectedLoss, tailsFrom, layerWidth, layerLoss}
 
 -- ---- tails and mean
 
@@ -156,3 +157,74 @@ module _ (r : Chances) (R A B : ℕ) where
   pub loss-at-most-one : (wide : 0 < (B - A) * r .assets) → Complete r → AtMost (expectedLoss r R A B wide) certainty
   unfolding expectedLoss certainty
   loss-at-most-one wide complete = omega (arith, loss-at-most complete (le-refl (suc (r .assets))))
+
+-- ---- layers
+
+module _ (r : Chances) where
+  pub tails-from-none : (i : ℕ) → tailsFrom r i 0 ≡ 0
+  unfolding tailsFrom sum
+  tails-from-none i = refl
+
+  pub tails-from-next : (i m : ℕ) → tailsFrom r i (suc m) ≡ tailsFrom r i m + tailNumerator r (i + m)
+  unfolding tailsFrom sum
+  tails-from-next i m = refl
+
+  pub tails-from-at-most : Complete r → (i m : ℕ) → tailsFrom r i m ≤ m * r .denominator
+  unfolding tailsFrom
+  tails-from-at-most complete i m =
+      omega (arith, sum-mono m {f = λ t. tailNumerator r (i + t)} {g = λ t. r .denominator} (λ t l. tail-at-most r complete (i + t)), sum-const m (r .denominator))
+
+  pub layer-at-most-one : Complete r → (i j : ℕ) → AtMost (layerLoss r i j) certainty
+  unfolding layerLoss divided share certainty
+  layer-at-most-one complete i j = omega (arith, tails-from-at-most complete i (layerWidth i j))
+
+  -- In the tails after c each default above c counts once, but no more than w of them do.
+  tails-from-cut : (c w : ℕ) → tailsFrom r (suc c) w ≡ sum (suc (r .assets)) (λ X. r .numerator X * min (X - c) w)
+  unfolding tailsFrom tailNumerator
+  tails-from-cut c w =
+      sum-cong w (λ t l. ap (λ k. sumBetween k (r .assets) (r .numerator)) (suc-add c t)) ∙ sym (between-cut (r .assets) c w (r .numerator))
+
+  module _ (c j A B : ℕ) (lower : A * r .assets ≡ whole * c) (upper : B * r .assets ≡ whole * j) where
+    layer-units-width : (B - A) * r .assets ≡ whole * (j - c)
+    layer-units-width = mul-comm (B - A) (r .assets) ∙ mul-sub (r .assets) B A ∙ rw (mul-comm (r .assets) B, mul-comm (r .assets) A, upper, lower) (sym (mul-sub whole j c))
+
+    -- Without recovery each default above c is lost as a whole.
+    layer-units : (X : ℕ) → lossUnits (r .assets) 0 A B X ≡ whole * min (X - c) (j - c)
+    unfolding complement whole
+    layer-units X = rw (loss-units-whole (r .assets) 0 A B X, layer-units-width, lower) (omega arith)
+
+    layer-numerator : lossNumerator r 0 A B (suc (r .assets)) ≡ whole * tailsFrom r (suc c) (j - c)
+    unfolding lossNumerator
+    layer-numerator =
+        sum-times (suc (r .assets)) whole _ (λ X. r .numerator X * min (X - c) (j - c)) (λ X l. rw (layer-units X) (omega arith))
+        ∙ ap (λ z. whole * z) (sym (tails-from-cut c (j - c)))
+
+  pub layer-tranche-wide : (i j A B : ℕ) → 1 ≤ i → i ≤ j → A * r .assets ≡ whole * (i - 1) → B * r .assets ≡ whole * j → 0 < (B - A) * r .assets
+  unfolding whole
+  layer-tranche-wide i j A B from order lower upper = omega (arith, layer-units-width (i - 1) j A B lower upper)
+
+  -- Where the attachments come out whole, a layer loses what the tranche without recovery does that has them: from the share of i − 1 of the n assets to that of j.
+  pub layer-tranche : (i j A B : ℕ) → 1 ≤ i → i ≤ j → A * r .assets ≡ whole * (i - 1) → B * r .assets ≡ whole * j → (wide : 0 < (B - A) * r .assets)
+      → Same (layerLoss r i j) (expectedLoss r 0 A B wide)
+  unfolding layerLoss expectedLoss divided share
+  layer-tranche i j A B from order lower upper wide =
+      let first : suc (i - 1) ≡ i = omega arith in
+      let width : j - (i - 1) ≡ layerWidth i j = omega arith in
+      let total = tailsFrom r i (layerWidth i j) in
+      let numerator : lossNumerator r 0 A B (suc (r .assets)) ≡ whole * total = rw (first, width) at (layer-numerator (i - 1) j A B lower upper) in
+      let tranche : (B - A) * r .assets ≡ whole * layerWidth i j = rw width at (layer-units-width (i - 1) j A B lower upper) in
+      record { cross = rw (numerator, tranche) (omega arith) }
+
+  -- The layer of all defaults loses the mean number of them, over n.
+  pub layer-of-all : (some : 0 < r .assets) → Same (layerLoss r 1 (r .assets)) (divided (mean r) (r .assets) some)
+  unfolding layerLoss mean divided share tailsFrom tailNumerator
+  layer-of-all some =
+      let width : layerWidth 1 (r .assets) ≡ r .assets = omega arith in
+      let total : sum (r .assets) (λ t. tailNumerator r (1 + t)) ≡ sum (suc (r .assets)) (λ j. j * r .numerator j) =
+      sum-cong (r .assets) (λ t l. rw (suc-add 0 t, zero-add t) refl) ∙ between-total (r .assets) (r .numerator) in
+      record { cross = rw (width, total) refl }
+
+  -- Where that mean is n × p, it loses p.
+  pub layer-of-mean : (p : ℕ) → 0 < r .assets → Same (mean r) (over (r .assets * p) 1) → Same (layerLoss r 1 (r .assets)) (over p 1)
+  unfolding divided over
+  layer-of-mean p some mean-is = same-trans (layer-of-all some) (record { cross = omega (arith, mean-is .cross) })

@@ -1,5 +1,6 @@
 -- The theorems of the correlated binomial model, for every default probability p and correlation ρ from 0 to 10,000 and with no bound on the number of
--- assets: the closed form is that of any correlation at a constant one, the three forms of P(j,k) agree, P splits and is never negative, the chances add to one, the mean is n × p.
+-- assets: the closed form is that of any correlation at a constant one, the three forms of P(j,k) agree, P splits and is never negative, the chances add to one, the
+-- mean is n × p, and the layer of all defaults loses p.
 -- Assumes nothing.
 use Prim.Native.Nat.{ℕ, zero, suc, _+_, _*_, _-_, _^_, _≤_, _<_}
 use mathlib.Core.Path.{_≡_, refl, sym, _∙_, ap, ap₂}
@@ -12,8 +13,8 @@ use Rattle.model.specs.Number.Laws.{sum-cong, product-cong, product-cons
 use Rattle.model.specs.Splitting.{rows-alternating}
 use Rattle.model.specs.Fraction.{Fraction, Same, AtMost, plus, whole, complement, certainty, over}
 use Rattle.model.specs.Fraction.Laws.{fraction-fields, same-trans}
-use Rattle.model.specs.Chances.{Complete, mean, tailsTotal, share}
-use Rattle.model.specs.Chances.Laws.{tails-total}
+use Rattle.model.specs.Chances.{Complete, mean, tailsTotal, layerLoss, share}
+use Rattle.model.specs.Chances.Laws.{tails-total, layer-of-mean}
 use Rattle.model.specs.ClosedForm.{constantly, conditionalDen, jointDen, conditionalBy, jointBy, closedFormBy, probabilityBy}
 use Rattle.model.specs.CorrelatedBinomial.{conditional, joint, closedForm, probability, defaults, withoutSubtraction, rowEntry, scaledJoint}
 use Rattle.model.specs.CorrelatedBinomial.Rows.{row-last, row-next, row-splits, folded-binomial, row-total, row-mean, row-at-most, rows-split, powers-product, powers-between}
@@ -110,3 +111,8 @@ module _ (p ρ : ℕ) (p≤1 : p ≤ whole) (ρ≤1 : ρ ≤ whole) where
   -- The tails at 1 to n add to n × p.
   pub defaults-tails-total : (n : ℕ) → Same (tailsTotal (defaults n p ρ)) (over (n * p) 1)
   defaults-tails-total n = same-trans (tails-total (defaults n p ρ)) (defaults-mean n)
+
+  -- The layer from the first to the n-th default loses p.
+  pub defaults-layer : (n : ℕ) → 0 < n → Same (layerLoss (defaults n p ρ) 1 n) (over p 1)
+  unfolding defaults
+  defaults-layer n some = layer-of-mean (defaults n p ρ) p some (defaults-mean n)

@@ -27,7 +27,7 @@ unfolding sum
 sum-plus zero f g h e = refl
 sum-plus (suc n) f g h e = omega (arith, sum-plus n f g h (λ i l. e i (le-step l)), e n (lt-suc-self n))
 
-sum-times : (n c : ℕ) (f g : ℕ → ℕ) → ((i : ℕ) → i < n → f i ≡ c * g i) → sum n f ≡ c * sum n g
+pub sum-times : (n c : ℕ) (f g : ℕ → ℕ) → ((i : ℕ) → i < n → f i ≡ c * g i) → sum n f ≡ c * sum n g
 unfolding sum
 sum-times zero c f g e = omega arith
 sum-times (suc n) c f g e = omega (arith, sum-times n c f g (λ i l. e i (le-step l)), e n (lt-suc-self n))
@@ -71,18 +71,37 @@ pub between-none : (n : ℕ) (f : ℕ → ℕ) {k : ℕ} → n < k → sumBetwee
 unfolding sumBetween sum
 between-none n f {k} l = rw (sub-eq-zero-of-le l)
 
--- The sums from 1, from 2, up to that from n have term j in them j times.
-pub between-total : (n : ℕ) (f : ℕ → ℕ) → sum n (λ i. sumBetween (suc i) n f) ≡ sum (suc n) (λ j. j * f j)
+-- Above c each of the terms up to n counts once.
+between-past : (n c : ℕ) (f : ℕ → ℕ) → sum (suc n) (λ x. f x * min (x - c) 1) ≡ sumBetween (suc c) n f
 unfolding sum
-between-total zero f = omega arith
-between-total (suc n) f =
+between-past zero c f = let none : min (0 - c) 1 ≡ 0 = omega arith in rw none (omega (arith, between-none 0 f {k = suc c} (omega arith)))
+between-past (suc n) c f = elim (decLe c n) [
+  | yes l ↦ let one : min (suc n - c) 1 ≡ 1 = omega arith in rw one (omega (arith, between-past n c f, between-last n f {k = suc c} (omega arith)))
+  | no l ↦
+      let none : min (suc n - c) 1 ≡ 0 = omega arith in
+      rw none (omega (arith, between-past n c f, between-none n f {k = suc c} (omega arith), between-none (suc n) f {k = suc c} (omega arith)))
+]
+
+-- The w sums that start after c have term x in them as many times as x is above c, but no more than w times.
+pub between-cut : (n c w : ℕ) (f : ℕ → ℕ) → sum (suc n) (λ x. f x * min (x - c) w) ≡ sum w (λ t. sumBetween (suc (c + t)) n f)
+unfolding sum
+between-cut n c zero f =
+    let none : (x : ℕ) → min (x - c) 0 ≡ 0 = λ x. omega arith in
+    sum-cong (suc n) {g = λ x. 0} (λ x l. rw (none x) (omega arith)) ∙ rw (sum-const (suc n) 0) (omega arith)
+between-cut n c (suc w) f =
+    let more : (x : ℕ) → min (x - c) (suc w) ≡ min (x - c) w + min (x - (c + w)) 1 = λ x. omega arith in
     omega (
       arith,
-      sum-plus (suc n) (λ i. sumBetween (suc i) (suc n) f) (λ i. sumBetween (suc i) n f) (λ i. f (suc n)) (λ i l. between-last n f l),
-      sum-const (suc n) (f (suc n)),
-      between-none n f (lt-suc-self n),
-      between-total n f,
+      sum-plus (suc n) (λ x. f x * min (x - c) (suc w)) (λ x. f x * min (x - c) w) (λ x. f x * min (x - (c + w)) 1) (λ x l. rw (more x) (omega arith)),
+      between-cut n c w f,
+      between-past n (c + w) f,
     )
+
+-- The sums from 1, from 2, up to that from n have term j in them j times.
+pub between-total : (n : ℕ) (f : ℕ → ℕ) → sum n (λ i. sumBetween (suc i) n f) ≡ sum (suc n) (λ j. j * f j)
+between-total n f =
+    sum-cong n (λ i l. rw (zero-add i) refl) ∙ sym (between-cut n 0 n f)
+    ∙ sum-cong (suc n) (λ j l. let all : min (j - 0) n ≡ j = omega arith in rw all (omega arith))
 
 -- ---- products
 

@@ -18,9 +18,11 @@ use Rattle.steps.specs.declared.Tranche.{Tranche}
 use Rattle.steps.specs.Loss.{LossAnswer, untouched}
 use Rattle.steps.specs.Tranches.{tranchePlaces, trancheLosses, lossesAfter}
 use Rattle.steps.specs.Tranches.Laws.{losses-untouched, losses-accepted}
-use Rattle.steps.specs.Inputs.{largestPool, InRange}
+use Rattle.steps.specs.Layers.{lossOfLayer, layerAfter}
+use Rattle.steps.specs.Layers.Laws.{layer-untouched}
+use Rattle.steps.specs.Inputs.{largestPool, InRange, LayerInRange}
 use Rattle.steps.specs.Inputs.Laws.{working-range}
-use Rattle.steps.specs.Promises.{HoldsLosses}
+use Rattle.steps.specs.Promises.{HoldsLosses, HoldsLayer}
 use Rattle.steps.specs.Promises.Laws.{column-holds}
 use Rattle.steps.specs.CorrelatedBinomial.Budgets.{defaultsBudget, poolBudget, BudgetsFor}
 use Rattle.steps.specs.CorrelatedBinomial.Rows.{keptRow}
@@ -32,12 +34,14 @@ use Rattle.chances.specs.Tails.{ColumnReady}
 use Rattle.expected_losses.specs.Loss.{OnSides, TranchesReady}
 use Rattle.chances.specs.Chances.Ready.{column-ready}
 use Rattle.expected_losses.specs.Loss.Ready.{tranches-ready}
+use Rattle.layer_losses.specs.Layer.{LayerReady}
+use Rattle.layer_losses.specs.Layer.Ready.{layer-ready}
 use Rattle.grounds.specs.Grounds.{firstGround, columnGrounds, TranchesAccepted}
 use Rattle.grounds.specs.Grounds.Laws.{entries-accepted, loss-accepted, loss-grounds-within}
 use Rattle.store.specs.declared.Pool.{Pool}
 use Rattle.store.specs.Stores.{Store}
 use Rattle.store.specs.Calls.Laws.{fills-untouched, fills-once, fills-apart}
-use Rattle.pool.specs.Calls.{PrintsRow, RepliesLosses, columnRefusal, Prints, lossRefusal, Replies}
+use Rattle.pool.specs.Calls.{PrintsRow, RepliesLosses, RepliesLayer, columnRefusal, Prints, lossRefusal, Replies, layerRefusal, LayerReplies}
 
 -- ---- a row of chances in general
 
@@ -68,6 +72,13 @@ module _ {r : Chances} {c : Side → ℕ → Kept} where
   unfolding lossesAfter
   reply-answered are holds = record { losses-are = are; holds-losses = λ _. holds }
 
+  layer-refused : {g i j refusal : ℕ} {loss : LossAnswer} → (refusal ≡ 0 → ⊥) → loss ≡ untouched → RepliesLayer g r c i j refusal loss
+  layer-refused some is = record { loss-is = is ∙ layer-untouched _ _ _ _ _ some; holds-loss = λ none. absurd (some none) }
+
+  pub layer-replied : {g i j : ℕ} {loss : LossAnswer} → loss ≡ lossOfLayer (r .assets) c i j → HoldsLayer g r c i j loss → RepliesLayer g r c i j 0 loss
+  unfolding layerAfter
+  layer-replied is holds = record { loss-is = is; holds-loss = λ _. holds }
+
   -- The losses depend on the tranches within the count alone.
   pub reply-once : {f g refusal refusal′ : ℕ} {ts ts′ : List Tranche} {losses losses′ : List LossAnswer} → ts ≡ ts′ → refusal ≡ refusal′
       → RepliesLosses f r c ts refusal losses → RepliesLosses g r c ts′ refusal′ losses′ → losses ≡ losses′
@@ -87,6 +98,11 @@ module _ {n p ρ : ℕ} (range : InRange largestPool n p ρ) where
       tranches-ready (within range) (placed range) (working-range range .assets) (pool-budgets (range .assets) .budget (le-refl n)) rows not-empty
       (accepted .places) (accepted .tranches)
 
+  pub layer-is-ready : {low high : List Kept} (i j : ℕ) → LayerInRange n i j → OnSides n low high (λ side. keptRow side p ρ n) → LayerReady n low high i j
+  unfolding defaults poolBudget defaultsBudget
+  layer-is-ready i j layer rows =
+      layer-ready (within range) (placed range) (working-range range .assets) (pool-budgets (range .assets) .budget (le-refl n)) rows i j layer
+
 -- ---- a refused call
 
 module _ {g : ℕ → ℕ} {pool : Pool} {before : Store} {refusal : ℕ} (some : refusal ≡ 0 → ⊥) where
@@ -97,6 +113,10 @@ module _ {g : ℕ → ℕ} {pool : Pool} {before : Store} {refusal : ℕ} (some 
   pub replies-untouched : {refuses : Pool → List Tranche → ℕ → Store → ℕ} {tranches : List Tranche} {count : ℕ} {losses : List LossAnswer}
       → refusal ≡ refuses pool tranches count before → losses ≡ replicate tranchePlaces untouched → Replies refuses g pool tranches count before before refusal losses
   replies-untouched is are = record { fills = fills-untouched some is; replies = reply-refused some are }
+
+pub layer-replies-untouched : {pool : Pool} {i j : ℕ} {before : Store} {refusal : ℕ} {loss : LossAnswer} → (refusal ≡ 0 → ⊥) → refusal ≡ layerRefusal pool i j before
+    → loss ≡ untouched → LayerReplies pool i j before before refusal loss
+layer-replies-untouched some is untouched-is = record { fills = fills-untouched some is; replies = layer-refused some untouched-is }
 
 -- ---- one outcome
 

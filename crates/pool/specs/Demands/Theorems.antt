@@ -12,10 +12,12 @@ use lib.Seq.{getD-take}
 use lib.Ieee.{Float}
 use Rattle.model.specs.Number.{triangle}
 use Rattle.model.specs.Number.Laws.{triangle-closed}
-use Rattle.model.specs.Fraction.{Fraction, Same, AtMost, integer}
+use Rattle.model.specs.Fraction.{Fraction, Same, AtMost, integer, whole, over}
 use Rattle.model.specs.Fraction.Laws.{same-refl}
 use Rattle.model.specs.Chances.{Chances, chance}
+use Rattle.model.specs.Chances.Laws.{layer-tranche, layer-tranche-wide}
 use Rattle.model.specs.CorrelatedBinomial.{defaults}
+use Rattle.model.specs.CorrelatedBinomial.Theorems.{defaults-layer}
 use Rattle.kept.specs.declared.Kept.{Kept}
 use Rattle.kept.specs.declared.Side.{Side}
 use Rattle.kept.specs.declared.Side.the-variants.{Low, High}
@@ -29,10 +31,11 @@ use Rattle.steps.specs.declared.Tranche.{Tranche}
 use Rattle.steps.specs.Loss.{untouched, raisedToShown, Says}
 use Rattle.steps.specs.Tranches.{tranchePlaces}
 use Rattle.steps.specs.Tranches.Laws.{answer-length, losses-untouched}
+use Rattle.steps.specs.Layers.Laws.{layer-untouched}
 use Rattle.steps.specs.Loss.Laws.{raised-greater, least-shown-value}
-use Rattle.steps.specs.Inputs.{upTo, largestPool, finePool, distanceFor, tenthsFor}
+use Rattle.steps.specs.Inputs.{upTo, largestPool, finePool, distanceFor, tenthsFor, LayerInRange}
 use Rattle.steps.specs.Inputs.Laws.{up-to-both}
-use Rattle.steps.specs.Promises.{HoldsSteps, HoldsColumn, HoldsLoss}
+use Rattle.steps.specs.Promises.{HoldsSteps, HoldsColumn, HoldsLoss, HoldsTranche, HoldsLayer}
 use Rattle.steps.specs.Chances.{keptTail}
 use Rattle.expected_losses.specs.Loss.{lossOf, lossesIn}
 use Rattle.expected_losses.specs.Loss.Laws.{one-loss}
@@ -41,18 +44,19 @@ use Rattle.working.specs.Slices.Laws.{overwritten-length, overwritten-later, en
 use Rattle.rows.specs.Store.{filledSide, stored}
 use Rattle.rows.specs.Store.Laws.{stored-length}
 use Rattle.grounds.specs.Grounds.{Ground, firstGround, columnGrounds, EachAtLeast, EntriesAccepted}
-use Rattle.grounds.specs.Grounds.Laws.{fill-accepted, row-accepted, entries-accepted, loss-accepted}
+use Rattle.grounds.specs.Grounds.Laws.{fill-accepted, row-accepted, entries-accepted, loss-accepted, layer-accepted}
 use Rattle.store.specs.declared.Pool.{Pool}
 use Rattle.expected_losses.specs.declared.Loss.{Loss}
 use Rattle.expected_losses.specs.declared.Loss.the-variants.{Untouched, Faint, Shown}
 use Rattle.expected_losses.specs.declared.TrancheLoss.{TrancheLoss}
 use Rattle.expected_losses.specs.declared.Answer.{Answer}
+use Rattle.layer_losses.specs.declared.LayerAnswer.{LayerAnswer}
 use Rattle.store.specs.Stores.{Store, store, lengths, sideOf, place, storeAfter}
 use Rattle.store.specs.Stores.Laws.{store-untouched}
 use Rattle.store.specs.Calls.{Fills, fillRefusal, HandsRow, rowRefusal}
-use Rattle.pool.specs.Calls.{columnRefusal, Prints, lossRefusal, RepliesLosses, Replies}
-use Rattle.pool.specs.Demands.{keptZero, partsFor, BoundDemands, StepsDemands, oneHalf, PrintedDemands, oneAndAHalf, unitsOff, Demand3Column, Slices, significandsOn, lent, numberOn, lengthsOf, from, TableDemands, StoreDemands, edge, BitsDemands, LossDemands, TrancheDemands, lossAt, LossesDemands}
-use Rattle.pool.specs.Demands.{FillDemands, RowDemands, EntriesDemands, ColumnDemandsBy, ColumnDemands, TranchesDemandsBy, TranchesDemands}
+use Rattle.pool.specs.Calls.{columnRefusal, Prints, lossRefusal, RepliesLosses, Replies, layerRefusal, LayerReplies}
+use Rattle.pool.specs.Demands.{keptZero, partsFor, BoundDemands, StepsDemands, oneHalf, PrintedDemands, oneAndAHalf, unitsOff, Demand3Column, Slices, significandsOn, lent, numberOn, lengthsOf, from, TableDemands, StoreDemands, edge, BitsDemands, LossDemands, AnswerDemands, TrancheDemands, lossAt, LossesDemands}
+use Rattle.pool.specs.Demands.{FillDemands, RowDemands, EntriesDemands, ColumnDemandsBy, ColumnDemands, TranchesDemandsBy, TranchesDemands, LayerLossDemands, LayerDemands}
 
 -- The four slices of a store.
 abbrev pub slices : Store → Slices
@@ -265,10 +269,13 @@ untouched-there : (loss : Loss) → lossOf loss ≡ untouched → loss ≡ Untou
 unfolding lossOf
 untouched-there loss is = one-loss loss Untouched is
 
--- A loss at a place, from what holds of it.
+-- A loss, from what holds of it.
+answer-meets : {parts : ℕ} {bound : Side → Kept} {exact : Fraction} (loss : Loss) → HoldsLoss parts bound exact (lossOf loss) → AnswerDemands parts bound exact loss
+answer-meets loss holds = record { bounds = bounds-meet (holds .enclosed); says = loss-meets _ _ _ _ loss (holds .says) }
+
 tranche-meets : {parts : ℕ} {r : Chances} {c : Side → ℕ → Kept} (t : Tranche) (loss : Loss) (wide : 0 < (t .upper - t .lower) * r .assets)
-    → HoldsLoss parts r c (t .recovery) (t .lower) (t .upper) wide (lossOf loss) → TrancheDemands parts r c t loss
-tranche-meets t loss wide holds = record { wide = wide; bounds = bounds-meet (holds .enclosed); says = loss-meets _ _ _ _ loss (holds .says) }
+    → HoldsTranche parts r c t wide (lossOf loss) → TrancheDemands parts r c t loss
+tranche-meets t loss wide holds = record { wide = wide; answer = answer-meets loss holds }
 
 -- The losses that any call answers, for eight tranches.
 pub losses-meet : {parts : ℕ} {r : Chances} {c : Side → ℕ → Kept} {tranches : List Tranche} {count : ℕ} (answer : Answer) → length tranches ≡ 8
@@ -306,3 +313,31 @@ module _ {pool : Pool} {tranches : List Tranche} {count : ℕ} {before after : S
       → TranchesDemands pool tranches count (slices before) (slices after) answer
   unfolding lossRefusal lengths largestPool upTo finePool distanceFor partsFor
   tranches-meet eight replies = tranches-meet-by eight replies refl (λ none. sym (replies .fills .refusal-is) ∙ none)
+
+-- ---- the layer
+
+-- The layer of any row.
+layer-loss-meets : {parts : ℕ} {r : Chances} {c : Side → ℕ → Kept} {i j : ℕ} (loss : Loss) → LayerInRange (r .assets) i j → HoldsLayer parts r c i j (lossOf loss)
+    → LayerLossDemands parts r c i j loss
+unfolding whole
+layer-loss-meets {r} {i} {j} loss layer holds = record {
+  answer = answer-meets loss holds;
+  of-tranche = λ A B lower upper.
+      let wide = layer-tranche-wide r i j A B (layer .from) (layer .order) lower upper in
+      record { wide = wide; same = layer-tranche r i j A B (layer .from) (layer .order) lower upper wide };
+}
+
+pub layer-meets : {pool : Pool} {i j : ℕ} {before after : Store} (answer : LayerAnswer) → LayerReplies pool i j before after (answer .refusal) (lossOf (answer .loss))
+    → LayerDemands pool i j (slices before) (slices after) answer
+unfolding defaults layerRefusal lengths largestPool upTo finePool distanceFor partsFor over whole
+layer-meets {pool} {i} {j} answer replies =
+    let accepted = layer-accepted largestPool _ _ _ _ _ _ (replies .fills .refusal-is) in
+    record {
+      one = record { number = replies .fills .refusal-is; untouched = λ some. ap slices (store-kept (replies .fills) some) };
+      store = store-meets (replies .fills) (λ none. accepted none .fill .store);
+      layer = λ none. layer-loss-meets (answer .loss) (accepted none .layer) (replies .replies .holds-loss none);
+      of-all = λ none.
+          let given = accepted none .fill .pool in
+          record { cross = defaults-layer (pool .probability) (pool .correlation) (given .range .probability) (given .range .correlation) (pool .assets) (given .not-empty) .cross };
+      refused = λ some. untouched-there _ (replies .replies .loss-is ∙ sym (layer-untouched _ _ _ _ _ some));
+    }

@@ -17,7 +17,7 @@ use Rattle.kept.specs.declared.Side.{Side}
 use Rattle.kept.specs.declared.Side.the-variants.{Low, High}
 use Rattle.kept.specs.Accuracy.{precision, BudgetFor}
 use Rattle.kept.specs.Accuracy.Laws.{budget-for-weaken}
-use Rattle.steps.specs.Budgets.{chanceBudget, tailBudget, lossBudget, WithinBudget, WithinPlaces}
+use Rattle.steps.specs.Budgets.{chanceBudget, tailBudget, layerBudget, WithinBudget, WithinPlaces}
 use Rattle.steps.specs.Counts.Laws.{count-budget-most}
 use Rattle.steps.specs.Column.{half, printedTail, printedRow, tenths, PrintsTails, PrintsColumn}
 use Rattle.steps.specs.Enclosure.{Enclosed}
@@ -40,7 +40,7 @@ module _ {n p ρ : ℕ} (range : InRange largestPool n p ρ) (ρ<1 : ρ < whole)
 
   -- The products of quotients are within their budget, and their denominators are few places long.
   pub products-within : WithinBudget (quotientsBudget n) (quotientDefaults ρ<1 n p) (λ j. quotientProduct ρ<1 p j n) (λ side. keptEntry side n p ρ)
-  unfolding quotientDefaults quotientProduct keptEntry chance share times integer lossBudget chanceBudget quotientsBudget precision
+  unfolding quotientDefaults quotientProduct keptEntry chance share times integer layerBudget tailBudget chanceBudget quotientsBudget precision
   products-within = record {
     complete = products-complete p (range .probability) ρ<1 n;
     entries = λ side j l. quotients-bound side p ρ<1 j n;
@@ -71,20 +71,20 @@ module _ {n p ρ : ℕ} (range : InRange largestPool n p ρ) (ρ<1 : ρ < whole)
   beta-exponents side (is-product j k l m) = quotients-ranged side few (range .probability) ρ<1 j m
   beta-exponents side (of-steps number) = steps-ranged products-within products-placed side number
 
-  -- The budget of a loss, the largest, is one for the distance.
-  pub beta-budget : BudgetFor (distanceFor n) (lossBudget n (chanceBudget n (quotientsBudget n)))
-  unfolding distanceFor lossBudget chanceBudget quotientsBudget precision
+  -- The budget of a layer, the largest, is one for the distance.
+  pub beta-budget : BudgetFor (distanceFor n) (layerBudget n (chanceBudget n (quotientsBudget n)))
+  unfolding distanceFor layerBudget tailBudget chanceBudget quotientsBudget precision
   beta-budget =
-      let most : BudgetFor (distanceFor n) 500 =
-      up-to (λ g. BudgetFor g 500) finePool n (λ _. record { positive = lit< tt; small = lit≤ tt }) (λ _. record { positive = lit< tt; small = lit≤ tt }) in
+      let most : BudgetFor (distanceFor n) 600 =
+      up-to (λ g. BudgetFor g 600) finePool n (λ _. record { positive = lit< tt; small = lit≤ tt }) (λ _. record { positive = lit< tt; small = lit≤ tt }) in
       budget-for-weaken (omega (arith, few, count-budget-most n)) most
 
   -- Both bounds of entry j, with P(j,n) by its closed form.
   pub beta-entries : {j : ℕ} → j ≤ n → Enclosed (distanceFor n) (keptEntry Low n p ρ j) (keptEntry High n p ρ j) (betaProbability p ρ j n)
-  unfolding betaDefaults defaultsBy lossBudget chanceBudget
+  unfolding betaDefaults defaultsBy layerBudget tailBudget chanceBudget
   beta-entries {j} l = bound-enclosed (budget-for-weaken (omega arith) beta-budget) (λ side. beta-within .entries side j l)
 
-  -- Both bounds of every chance, tail and tranche loss, and the exponents of all numbers.
+  -- Both bounds of every chance, tail and loss, and the exponents of all numbers.
   pub beta-steps-hold : HoldsSteps (distanceFor n) (betaDefaults n p ρ) (λ side. keptBetaDefaults side n p ρ) (λ side. BetaNumber side n p ρ)
   unfolding betaDefaults defaultsBy keptBetaDefaults
   beta-steps-hold = record { enclosed = row-enclosed beta-within beta-budget; ranged = beta-exponents }

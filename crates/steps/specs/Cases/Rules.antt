@@ -1,6 +1,6 @@
 -- The rule of each step, for all inputs; and the numbers whose exponents are held to their range, among which every number of the steps is.
 -- Assumes nothing.
-use Prim.Native.Nat.{ℕ, suc, _-_, _*_, _≤_, _<_}
+use Prim.Native.Nat.{ℕ, suc, _+_, _-_, _*_, _≤_, _<_}
 use mathlib.Core.Path.{_≡_, refl}
 use native.Mathlib.Omega.{arith}
 use native.Mathlib.Nat.{le-refl}
@@ -9,7 +9,7 @@ use Rattle.model.specs.Number.{pascalRow}
 use Rattle.model.specs.Number.Laws.{pascal-inside, pascal-past}
 use Rattle.model.specs.Fraction.{whole, complement}
 use Rattle.model.specs.Passes.{passed}
-use Rattle.model.specs.Chances.{lossUnits}
+use Rattle.model.specs.Chances.{lossUnits, layer-wide}
 use Rattle.model.specs.BetaBinomial.{quotientNumerator, quotientDenominator}
 use Rattle.kept.specs.declared.Kept.{Kept}
 use Rattle.kept.specs.declared.Side.{Side}
@@ -18,8 +18,8 @@ use Rattle.steps.specs.CorrelatedBinomial.Rows.{constant, keptConditiona
 use Rattle.steps.specs.CorrelatedBinomial.Exponents.{PoolNumber, is-p, is-a, is-ρ, is-q, is-conditional-product, is-conditional, is-joint, is-power, is-weight, is-passed, is-pass-product, is-entry, of-rows, of-steps}
 use Rattle.steps.specs.BetaBinomial.{keptProduct, keptQuotient, keptEntry, BetaNumber, is-quotient, is-product, of-steps as of-beta}
 use Rattle.steps.specs.Counts.{exactAssets, summedCount, keptCount, is-count, is-summed}
-use Rattle.steps.specs.Chances.{keptTotal, keptChance, keptChances, keptTail, keptTerm, keptLoss}
-use Rattle.steps.specs.Numbers.{StepNumber, of-counts, is-chance, is-tail, is-units, is-term, is-total, is-loss, of-chances, of-tails, of-losses}
+use Rattle.steps.specs.Chances.{keptTotal, keptChance, keptChances, keptTail, keptTerm, keptLoss, keptLayer}
+use Rattle.steps.specs.Numbers.{StepNumber, of-counts, is-chance, is-tail, is-units, is-term, is-total, is-loss, is-sum, is-layer, of-chances, of-tails, of-losses, of-layers}
 
 -- ---- the rule of each step, for all inputs, on either side
 
@@ -60,15 +60,16 @@ module _ (side : Side) where
   unfolding summedCount pascalRow
   count-sums k j = (refl, pascal-past unity (roundedSum side) k k (le-refl k), pascal-inside unity (roundedSum side) k j)
 
-  pub chance-rules : (n : ℕ) (c : ℕ → Kept) (R A B j X k : ℕ) (x : Kept) (wide : 0 < (B - A) * n)
+  pub chance-rules : (n : ℕ) (c : ℕ → Kept) (R A B i j X k : ℕ) (x : Kept) (wide : 0 < (B - A) * n)
       → (keptChance side n j x ≡ roundedProduct side (keptCount side n j) x)
       × (keptTotal side c 0 ≡ nought)
       × (keptTotal side c (suc k) ≡ roundedSum side (keptTotal side c k) (c k))
       × (keptTail side n c k ≡ keptTotal side (λ i. c (n - i)) (suc n - k))
       × (keptTerm side n c R A B X ≡ roundedProduct side (c X) (ofInteger side (lossUnits n R A B X)))
       × (keptLoss side n c R A B wide ≡ roundedQuotient side (keptTotal side (keptTerm side n c R A B) (suc n)) ((B - A) * n) wide)
-  unfolding keptChance keptTotal keptTail keptTerm keptLoss
-  chance-rules n c R A B j X k x wide = (refl, refl, refl, refl, refl, refl)
+      × (keptLayer side n c i j ≡ roundedQuotient side (keptTotal side (λ t. keptTail side n c (i + t)) (j - i + 1)) (j - i + 1) (layer-wide i j))
+  unfolding keptChance keptTotal keptTail keptTerm keptLoss keptLayer
+  chance-rules n c R A B i j X k x wide = (refl, refl, refl, refl, refl, refl, refl)
 
 -- ---- the numbers whose exponents are held to their range: every number of the steps is among them
 
@@ -116,7 +117,7 @@ module _ (side : Side) (n : ℕ) (entry : ℕ → Kept) where
   abbrev stepChances : ℕ → Kept
   stepChances = keptChances side n entry
 
-  pub step-numbers : (k j m R A B : ℕ) → k ≤ n → j ≤ k → m ≤ suc n → B ≤ 10000 → (wide : 0 < (B - A) * n) → let Made = StepNumber side n entry in
+  pub step-numbers : (k j m R A B i t : ℕ) → k ≤ n → j ≤ k → m ≤ suc n → B ≤ 10000 → t ≤ k - i + 1 → (wide : 0 < (B - A) * n) → let Made = StepNumber side n entry in
       Made (keptCount side n k)
       × (64 < n → Made (summedCount side k j))
       × Made (keptChance side n k (entry k))
@@ -125,8 +126,10 @@ module _ (side : Side) (n : ℕ) (entry : ℕ → Kept) where
       × Made (keptTerm side n stepChances R A B k)
       × Made (keptTotal side (keptTerm side n stepChances R A B) m)
       × Made (keptLoss side n stepChances R A B wide)
+      × Made (keptTotal side (λ t. keptTail side n stepChances (i + t)) t)
+      × Made (keptLayer side n stepChances i k)
   unfolding exactAssets whole
-  step-numbers k j m R A B few low most upper wide = (
+  step-numbers k j m R A B i t few low most upper within wide = (
     of-chances (of-counts (is-count k few)),
     (λ more. of-chances (of-counts (is-summed more k j few low))),
     of-chances (is-chance k few),
@@ -135,4 +138,6 @@ module _ (side : Side) (n : ℕ) (entry : ℕ → Kept) where
     of-losses R A B upper (is-term k few),
     of-losses R A B upper (is-total m most),
     of-losses R A B upper (is-loss wide),
+    of-layers i k few (is-sum t within),
+    of-layers i k few is-layer,
   )

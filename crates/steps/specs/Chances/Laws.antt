@@ -1,4 +1,4 @@
--- How far chances, tails and tranche losses are from their exact values, for a row of chances in general.
+-- How far chances, tails and the losses of tranches and layers are from their exact values, for a row of chances in general.
 -- Assumes nothing.
 use Prim.Native.Nat.{ℕ, zero, suc, _+_, _*_, _-_, _^_, _≤_, _<_}
 use mathlib.Core.Path.{_≡_, ap}
@@ -8,8 +8,8 @@ use native.Mathlib.Omega.{arith}
 use Rattle.model.specs.Number.{choose}
 use Rattle.model.specs.Fraction.{Fraction, Same, integer, plus, times, divided}
 use Rattle.model.specs.Fraction.Laws.{same-refl, same-sym, same-trans, times-same}
-use Rattle.model.specs.Chances.{Chances, share, chance, tailNumerator, tail, lossUnits, lossNumerator, expectedLoss}
-use Rattle.model.specs.Chances.Laws.{tail-next, tail-past, loss-none, loss-next, loss-units-at-most}
+use Rattle.model.specs.Chances.{Chances, share, chance, tailNumerator, tail, lossUnits, lossNumerator, expectedLoss, tailsFrom, layerWidth, layer-wide, layerLoss}
+use Rattle.model.specs.Chances.Laws.{tail-next, tail-past, loss-none, loss-next, loss-units-at-most, tails-from-none, tails-from-next}
 use Rattle.kept.specs.declared.Kept.{Kept}
 use Rattle.kept.specs.declared.Side.{Side}
 use Rattle.kept.specs.declared.Side.the-variants.{Low, High}
@@ -19,10 +19,10 @@ use Rattle.kept.specs.Rounding.{IsKept, value, round, roundedProduct, ofInteger
 use Rattle.kept.specs.Rounding.Leading.{nought-same}
 use Rattle.kept.specs.Rounding.Laws.{nought-kept, kept-unique, round-cong, quotient-is, integer-is, integer-exact}
 use Rattle.steps.specs.Enclosure.{Enclosed}
-use Rattle.steps.specs.Budgets.{Bounded, chanceBudget, tailBudget, lossBudget}
+use Rattle.steps.specs.Budgets.{Bounded, chanceBudget, tailBudget, lossBudget, layerBudget}
 use Rattle.steps.specs.Enclosure.Laws.{bound-enclosed}
 use Rattle.steps.specs.Counts.Laws.{count-bound}
-use Rattle.steps.specs.Chances.{keptTotal, keptChance, keptTail, keptTerm, keptLoss}
+use Rattle.steps.specs.Chances.{keptTotal, keptChance, keptTail, keptTerm, keptLoss, keptLayer}
 
 -- Step 4, for any exact value v of entry j.
 pub chance-bound : {side : Side} {b : ℕ} {entry : Kept} {v : Fraction} (n j : ℕ) → j ≤ n
@@ -44,6 +44,10 @@ units-either side other n R A B X narrow =
 pub loss-kept : (side : Side) (n : ℕ) (c : ℕ → Kept) (R A B : ℕ) (wide : 0 < (B - A) * n) → IsKept (keptLoss side n c R A B wide)
 unfolding keptLoss
 loss-kept side n c R A B wide = quotient-is side (keptTotal side (keptTerm side n c R A B) (suc n)) ((B - A) * n) wide .kept
+
+pub layer-kept : (side : Side) (n : ℕ) (c : ℕ → Kept) (i j : ℕ) → IsKept (keptLayer side n c i j)
+unfolding keptLayer
+layer-kept side n c i j = quotient-is side _ _ (layer-wide i j) .kept
 
 -- The product of a chance and its loss units is rounded once: the units themselves are a kept number.
 pub term-once : (side : Side) (n : ℕ) (c : ℕ → Kept) (R A B X : ℕ) → (B - A) * n < 2 ^ 32
@@ -87,6 +91,19 @@ module _ {b : ℕ} {r : Chances} {c : Side → ℕ → Kept} (bounded : Bounded 
       ] in
       bound-weaken (omega arith) (rw reached at (tail-total-bound (suc n - k) (omega arith)))
 
+  -- The total of m tails from that at i on.
+  pub layer-total-bound : (i m : ℕ)
+      → Bound side (tailBudget (r .assets) b + m) (keptTotal side (λ t. keptTail side (r .assets) (c side) (i + t)) m) (share r (tailsFrom r i m))
+  unfolding tail
+  layer-total-bound i m =
+      total-bound side r (λ t. keptTail side (r .assets) (c side) (i + t)) (tailsFrom r i) (λ t. tailNumerator r (i + t)) m
+      (tails-from-none r i) (λ t l. tails-from-next r i t) (λ t l. tail-bound (i + t)) m (le-refl m)
+
+  pub layer-bound : (i j : ℕ) → j ≤ r .assets
+      → Bound side (layerBudget (r .assets) b) (keptLayer side (r .assets) (c side) i j) (layerLoss r i j)
+  unfolding layerBudget keptLayer layerLoss
+  layer-bound i j l = bound-weaken (omega arith) (bound-quotient (layerWidth i j) (layer-wide i j) (layer-total-bound i (layerWidth i j)))
+
   module _ (R A B : ℕ) (narrow : (B - A) * r .assets < 2 ^ 32) where
     pub term-bound : (X : ℕ) → X ≤ r .assets
         → Bound side (b + 1) (keptTerm side (r .assets) (c side) R A B X) (share r (r .numerator X * lossUnits (r .assets) R A B X))
@@ -123,3 +140,7 @@ module _ {g b : ℕ} {r : Chances} {c : Side → ℕ → Kept} (bounded : Bounde
   pub loss-enclosed : BudgetFor g (lossBudget (r .assets) b) → (R A B : ℕ) → (B - A) * r .assets < 2 ^ 32 → (wide : 0 < (B - A) * r .assets)
       → Enclosed g (keptLoss Low (r .assets) (c Low) R A B wide) (keptLoss High (r .assets) (c High) R A B wide) (expectedLoss r R A B wide)
   loss-enclosed fine R A B narrow wide = bound-enclosed fine (λ side. loss-bound bounded side R A B narrow wide)
+
+  pub layer-enclosed : BudgetFor g (layerBudget (r .assets) b) → (i j : ℕ) → j ≤ r .assets
+      → Enclosed g (keptLayer Low (r .assets) (c Low) i j) (keptLayer High (r .assets) (c High) i j) (layerLoss r i j)
+  layer-enclosed fine i j l = bound-enclosed fine (λ side. layer-bound bounded side i j l)

@@ -3,7 +3,7 @@
 use Prim.Native.Nat.{ℕ, suc, _+_, _*_, _≤_}
 use Rattle.model.specs.Number.{triangle}
 use Rattle.kept.specs.Accuracy.{precision, BudgetFor}
-use Rattle.steps.specs.Budgets.{chanceBudget, lossBudget}
+use Rattle.steps.specs.Budgets.{chanceBudget, layerBudget}
 
 -- An entry of row k: 3 × T(k).
 unfoldable pub rowBudget : ℕ → ℕ
@@ -13,9 +13,9 @@ rowBudget k = 3 * triangle k
 unfoldable pub defaultsBudget : ℕ → ℕ
 defaultsBudget n = chanceBudget n (rowBudget n)
 
--- A tranche loss, the largest budget among those of entries, chances, tails and losses.
+-- The loss of a layer, the largest budget among those of entries, chances, tails and losses.
 unfoldable pub poolBudget : ℕ → ℕ
-poolBudget n = lossBudget n (defaultsBudget n)
+poolBudget n = layerBudget n (defaultsBudget n)
 
 -- In every pool of k ≤ n assets, row k of a store for n among them, two bounds are at most one part in g k apart.
 pub record BudgetsFor (g : ℕ → ℕ) (n : ℕ) : Type 0 where

@@ -1,6 +1,6 @@
 -- Demands 2 and 3 of the steps, for every pool of up to 100 assets, every default probability p and correlation ρ from 0 to 10,000, every recovery R and every
--- tranche with B ≤ 10,000 whose width (B − A) × n is above zero, which `tranche-wide` gives for A < B and a pool that is not empty. What the steps make is
--- within the budgets of the model's row, so that the promises of a row in general hold of it, at every distance that these budgets give.
+-- tranche with B ≤ 10,000 whose width (B − A) × n is above zero, which `tranche-wide` gives for A < B and a pool that is not empty, and every layer up to the j-th
+-- default with j ≤ n. What the steps make is within the budgets of the model's row, so that the promises of a row in general hold of it, at every distance that these budgets give.
 -- Assumes nothing.
 use Prim.Native.Nat.{ℕ, _*_, _≤_, _<_}
 use mathlib.Core.Path.{_≡_, refl}
@@ -22,7 +22,7 @@ use Rattle.kept.specs.declared.Side.{Side}
 use Rattle.kept.specs.declared.Side.the-variants.{Low, High}
 use Rattle.kept.specs.Accuracy.{precision, BudgetFor}
 use Rattle.kept.specs.Accuracy.Laws.{budget-for-weaken}
-use Rattle.steps.specs.Budgets.{chanceBudget, tailBudget, lossBudget, WithinBudget, WithinPlaces}
+use Rattle.steps.specs.Budgets.{chanceBudget, tailBudget, layerBudget, WithinBudget, WithinPlaces}
 use Rattle.steps.specs.Counts.{exactAssets, countBudget}
 use Rattle.steps.specs.Counts.Laws.{count-budget-mono, count-budget-most}
 use Rattle.steps.specs.CorrelatedBinomial.Budgets.{rowBudget, defaultsBudget, poolBudget, BudgetsFor, FewAssets}
@@ -37,8 +37,9 @@ use Rattle.steps.specs.CorrelatedBinomial.Exponents.Laws.{rows-ranged}
 use Rattle.steps.specs.declared.Tranche.{Tranche}
 use Rattle.steps.specs.Loss.{LossAnswer}
 use Rattle.steps.specs.Tranches.{TranchesInRange, trancheLosses}
-use Rattle.steps.specs.Promises.{HoldsSteps, HoldsShifts, HoldsLosses}
-use Rattle.steps.specs.Promises.Laws.{steps-ranged, row-tails, tails-column, row-enclosed, losses-hold, shifts-hold}
+use Rattle.steps.specs.Layers.{lossOfLayer}
+use Rattle.steps.specs.Promises.{HoldsSteps, HoldsShifts, HoldsLosses, HoldsLayer}
+use Rattle.steps.specs.Promises.Laws.{steps-ranged, row-tails, tails-column, row-enclosed, losses-hold, layer-holds, shifts-hold}
 use Rattle.steps.specs.Inputs.{upTo, largestPool, reportPool, finePool, distanceFor, screenPool, screenDistance, tenthsFor, tailTenths, shiftTenths, workingAssets, InRange}
 use Rattle.steps.specs.Inputs.Laws.{up-to, range-uncorrelated, pool-works, report-range}
 use Rattle.steps.specs.CorrelatedBinomial.{keptDefaults}
@@ -49,7 +50,7 @@ use Rattle.steps.specs.CorrelatedBinomial.Exponents.{PoolNumber, of-rows
 module _ {most n p ρ : ℕ} (range : InRange most n p ρ) (few : FewAssets n) where
   -- The rows of the model are within their budgets, and their denominators are few places long.
   pool-within : WithinBudget (rowBudget n) (defaults n p ρ) (λ j. probability p ρ j n) (λ side. keptRow side p ρ n)
-  unfolding defaults chance share probability times integer over lossBudget chanceBudget rowBudget triangle
+  unfolding defaults chance share probability times integer over layerBudget tailBudget chanceBudget rowBudget triangle
   pool-within = record {
     complete = defaults-complete p ρ (range .probability) (range .correlation) n;
     entries = λ side j l. entry-bound side p ρ (range .probability) (range .correlation) l;
@@ -80,13 +81,13 @@ few-assets few = let most = triangle-mono few in record { parts = omega arith; p
 
 -- Where the budget of so many assets is one for a distance, that of every smaller pool is too.
 budget-for : {most g k : ℕ} → BudgetFor g (poolBudget most) → k ≤ most → BudgetFor g (poolBudget k)
-unfolding poolBudget defaultsBudget lossBudget chanceBudget rowBudget
+unfolding poolBudget defaultsBudget layerBudget tailBudget chanceBudget rowBudget
 budget-for most-fits few = budget-for-weaken (omega (arith, triangle-mono few, count-budget-mono few)) most-fits
 
 -- The budgets at the limits, each for its distance.
 limits : BudgetFor (distanceFor finePool) (poolBudget finePool) × BudgetFor (distanceFor largestPool) (poolBudget largestPool)
     × BudgetFor (screenDistance screenPool) (poolBudget screenPool)
-unfolding upTo finePool largestPool screenPool distanceFor screenDistance poolBudget defaultsBudget lossBudget chanceBudget exactAssets countBudget rowBudget precision triangle
+unfolding upTo finePool largestPool screenPool distanceFor screenDistance poolBudget defaultsBudget layerBudget tailBudget chanceBudget exactAssets countBudget rowBudget precision triangle
 limits = (record { positive = lit< tt; small = lit≤ tt }, record { positive = lit< tt; small = lit≤ tt }, record { positive = lit< tt; small = lit≤ tt })
 
 pub pool-budgets : {n : ℕ} → n ≤ largestPool → BudgetsFor distanceFor n
@@ -113,11 +114,11 @@ module _ {n p ρ : ℕ} where
     module _ {g : ℕ → ℕ} (apart : BudgetsFor g n) where
       -- Both bounds of entry j of row k, with P(j,k) by its closed form.
       pub entries : {j k : ℕ} → j ≤ k → k ≤ n → Enclosed (g k) (keptRow Low p ρ k j) (keptRow High p ρ k j) (probability p ρ j k)
-      unfolding poolBudget defaultsBudget lossBudget chanceBudget
+      unfolding poolBudget defaultsBudget layerBudget tailBudget chanceBudget
       entries l m =
           bound-enclosed (budget-for-weaken (omega arith) (apart .budget m)) (λ side. entry-bound side p ρ (range .probability) (range .correlation) l)
 
-      -- Both bounds of every chance, tail and tranche loss, and the exponents of all numbers.
+      -- Both bounds of every chance, tail and loss, and the exponents of all numbers.
       pub steps-hold : HoldsSteps (g n) (defaults n p ρ) (λ side. keptDefaults side n p ρ) (λ side. PoolNumber side n p ρ)
       unfolding defaults keptDefaults poolBudget defaultsBudget
       steps-hold = record {
@@ -125,11 +126,16 @@ module _ {n p ρ : ℕ} where
         ranged = pool-ranged range (few-assets (le-trans (range .assets) pool-works));
       }
 
-      -- What holds of the losses that are answered.
+      -- What holds of the losses of tranches that are answered, and of that of a layer.
       pub answers : {ts : List Tranche} {losses : List LossAnswer} → 0 < n → TranchesInRange ts → losses ≡ trancheLosses n (λ side. keptDefaults side n p ρ) ts
           → HoldsLosses (g n) (defaults n p ρ) (λ side. keptDefaults side n p ρ) ts losses
       unfolding defaults keptDefaults poolBudget defaultsBudget
       answers = losses-hold within (apart .budget (le-refl n))
+
+      pub layer-answers : (i j : ℕ) → j ≤ n → {loss : LossAnswer} → loss ≡ lossOfLayer n (λ side. keptDefaults side n p ρ) i j
+          → HoldsLayer (g n) (defaults n p ρ) (λ side. keptDefaults side n p ρ) i j loss
+      unfolding defaults keptDefaults poolBudget defaultsBudget
+      layer-answers = layer-holds within (apart .budget (le-refl n))
 
     -- The printed tails are at most half a unit above the exact ones and less than 0.8 units below them; above 64 assets less than 1.3.
     pub printed : PrintsTails half (tenths (tailTenths n)) (defaults n p ρ) (printedTail n (keptDefaults Low n p ρ))

@@ -1,6 +1,6 @@
--- What the answer to a tranche loss says.
+-- What the answer to a loss says.
 -- Assumes nothing.
-use Prim.Native.Nat.{ℕ, suc, _-_, _*_, _<_}
+use Prim.Native.Nat.{ℕ, suc, _*_, _<_}
 use mathlib.Core.Path.{_≡_, refl}
 use mathlib.Core.Logic.{_⊎_, inl, inr}
 use mathlib.Core.Bool.{false}
@@ -12,16 +12,11 @@ use lib.Dec.{eqb, lit<, lit≤}
 use lib.IntN.{negsuc}
 use Rattle.model.specs.Fraction.{Fraction, Same, AtMost, Less, integer, plus, times, certainty}
 use Rattle.model.specs.Fraction.Laws.{same-sym, at-most-of-same, at-most-of-less, at-most-trans, at-most-less-trans}
-use Rattle.model.specs.Chances.{Chances, Complete, expectedLoss}
-use Rattle.model.specs.Chances.Laws.{loss-at-most-one}
 use Rattle.kept.specs.declared.Kept.{Kept}
-use Rattle.kept.specs.declared.Side.the-variants.{Low, High}
 use Rattle.kept.specs.Rounding.{IsKept, scaled, value, nought}
 use Rattle.kept.specs.Rounding.Powers.{scaled-shift}
 use Rattle.kept.specs.Binary64.{leastShown, belowShown, toBinary64, Shown}
 use Rattle.kept.specs.Binary64.Laws.{shown-binary64}
-use Rattle.steps.specs.Chances.{keptLoss}
-use Rattle.steps.specs.Chances.Laws.{loss-kept}
 use Rattle.steps.specs.Enclosure.{Enclosed}
 use Rattle.steps.specs.Loss.{untouched, faint, shown, keptLeastShown, raisedToShown, lossAnswer, Says}
 
@@ -108,7 +103,7 @@ high-to-two {g} {low} {high} {v} positive enclosed most =
     }
 
 -- What it says, of an exact loss of at most one between two bounds.
-answer-says : {g : ℕ} {low high : Kept} {v : Fraction} → 0 < g → IsKept low → IsKept high → Enclosed g low high v → AtMost v certainty
+pub answer-says : {g : ℕ} {low high : Kept} {v : Fraction} → 0 < g → IsKept low → IsKept high → Enclosed g low high v → AtMost v certainty
     → Says g low high v (lossAnswer low high)
 unfolding integer nought scaled
 answer-says {g} {low} {high} {v} positive kept-low kept-high enclosed most = elim (kept-high .form) [
@@ -136,12 +131,3 @@ answer-says {g} {low} {high} {v} positive kept-low kept-high enclosed most = eli
         })
       ]
 ]
-
--- The tranche losses of a row of chances in general.
-pub tranche-says : {g : ℕ} → 0 < g → (r : Chances) (low high : ℕ → Kept) → Complete r → (R A B : ℕ) (wide : 0 < (B - A) * r .assets)
-    → Enclosed g (keptLoss Low (r .assets) low R A B wide) (keptLoss High (r .assets) high R A B wide) (expectedLoss r R A B wide)
-    → Says g (keptLoss Low (r .assets) low R A B wide) (keptLoss High (r .assets) high R A B wide) (expectedLoss r R A B wide)
-    (lossAnswer (keptLoss Low (r .assets) low R A B wide) (keptLoss High (r .assets) high R A B wide))
-tranche-says positive r low high complete R A B wide enclosed =
-    answer-says positive (loss-kept Low (r .assets) low R A B wide) (loss-kept High (r .assets) high R A B wide) enclosed
-    (loss-at-most-one r R A B wide complete)

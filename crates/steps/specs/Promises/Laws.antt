@@ -9,34 +9,43 @@ use lib.ListN.{getD}
 use lib.IntN.{ℤ, pos, +ℤ-invr}
 use Rattle.model.specs.Number.{choose}
 use Rattle.model.specs.Number.Laws.{sum-cong}
-use Rattle.model.specs.Fraction.{Fraction, Same, AtMost, integer, plus, times, whole}
+use Rattle.model.specs.Fraction.{Fraction, Same, AtMost, integer, plus, times, certainty, whole}
 use Rattle.model.specs.Fraction.Laws.{same-refl, same-sym, same-trans, times-same, at-most-refl, less-at-most-trans, times-mono}
 use Rattle.model.specs.Chances.{Chances, SameChances, chance, tailsTotal}
-use Rattle.model.specs.Chances.Laws.{complete-same, tranche-wide}
+use Rattle.model.specs.Chances.Laws.{complete-same, tranche-wide, loss-at-most-one, layer-at-most-one}
 use Rattle.kept.specs.declared.Kept.{Kept}
 use Rattle.kept.specs.declared.Side.{Side}
 use Rattle.kept.specs.declared.Side.the-variants.{Low, High}
+use Rattle.kept.specs.Rounding.{IsKept}
 use Rattle.kept.specs.Accuracy.{precision, BudgetFor}
 use Rattle.kept.specs.Accuracy.Laws.{bound-same, budget-for-weaken}
-use Rattle.steps.specs.Budgets.{chanceBudget, tailBudget, lossBudget, Bounded, WithinBudget, WithinPlaces}
-use Rattle.steps.specs.Chances.{keptChances, keptLoss}
-use Rattle.steps.specs.Chances.Laws.{chance-bound, chance-enclosed, tail-enclosed, loss-enclosed}
+use Rattle.steps.specs.Budgets.{chanceBudget, tailBudget, lossBudget, layerBudget, Bounded, WithinBudget, WithinPlaces}
+use Rattle.steps.specs.Chances.{keptChances}
+use Rattle.steps.specs.Chances.Laws.{chance-bound, chance-enclosed, tail-enclosed, loss-enclosed, layer-enclosed, loss-kept, layer-kept}
 use Rattle.steps.specs.Column.{unitsOfCertainty, half, printedTail, printedRow, tenths, PrintsTails, PrintsColumn}
 use Rattle.steps.specs.Column.Laws.{within-weaken, printed-tails, printed-column, column-weaken}
 use Rattle.steps.specs.Inputs.{finePool, tenthsFor, tailTenths}
 use Rattle.steps.specs.Inputs.Laws.{up-to, tail-tenths-within}
 use Rattle.steps.specs.Shifts.{tailShift}
 use Rattle.steps.specs.Shifts.Laws.{tails-near, tails-between, tails-total-near}
+use Rattle.steps.specs.Enclosure.{Enclosed}
 use Rattle.steps.specs.Exponents.{Ranged}
 use Rattle.steps.specs.Exponents.Laws.{bound-ranged, unscaled}
 use Rattle.steps.specs.Loss.{LossAnswer, lossAnswer}
-use Rattle.steps.specs.Loss.Laws.{tranche-says}
+use Rattle.steps.specs.Loss.Laws.{answer-says}
 use Rattle.steps.specs.declared.Tranche.{Tranche}
 use Rattle.steps.specs.Tranches.{trancheAt, TranchesInRange, trancheLosses}
 use Rattle.steps.specs.Tranches.Laws.{tranche-loss-is, losses-at, losses-past}
-use Rattle.steps.specs.Numbers.{StepNumber, of-chances, of-tails, of-losses}
-use Rattle.steps.specs.Numbers.Laws.{chances-ranged, tails-ranged, losses-ranged}
-use Rattle.steps.specs.Promises.{RowEnclosed, HoldsColumn, HoldsShifts, HoldsLoss, HoldsLosses}
+use Rattle.steps.specs.Layers.{lossOfLayer}
+use Rattle.steps.specs.Numbers.{StepNumber, of-chances, of-tails, of-losses, of-layers}
+use Rattle.steps.specs.Numbers.Laws.{chances-ranged, tails-ranged, losses-ranged, layers-ranged}
+use Rattle.steps.specs.Promises.{RowEnclosed, HoldsColumn, HoldsShifts, HoldsLoss, HoldsLosses, HoldsLayer}
+
+-- A loss that is answered from two bounds which enclose an exact value of at most one.
+pub loss-holds : {g : ℕ} {bound : Side → Kept} {v : Fraction} {loss : LossAnswer} → 0 < g → ((side : Side) → IsKept (bound side)) → Enclosed g (bound Low) (bound High) v
+    → AtMost v certainty → loss ≡ lossAnswer (bound Low) (bound High) → HoldsLoss g bound v loss
+loss-holds positive kept enclosed most is =
+    record { answer-is = is; enclosed = enclosed; says = rw is (answer-says positive (kept Low) (kept High) enclosed most) }
 
 module _ {b : ℕ} {r : Chances} {v : ℕ → Fraction} {entry : Side → ℕ → Kept} (within : WithinBudget b r v entry) where
   abbrev kept : Side → ℕ → Kept
@@ -54,19 +63,21 @@ module _ {b : ℕ} {r : Chances} {v : ℕ → Fraction} {entry : Side → ℕ �
 
   module _ {m : ℕ} (placed : WithinPlaces m r v) where
     pub entries-ranged : (side : Side) (j : ℕ) → j ≤ r .assets → Ranged (entry side j)
-    unfolding lossBudget chanceBudget
+    unfolding layerBudget tailBudget chanceBudget
     entries-ranged side j l =
         bound-ranged (within .entries side j l) m 0 (placed .denominators j l) (unscaled (placed .at-most-one j l))
         (omega (arith, within .parts, placed .places))
 
     pub steps-ranged : (side : Side) {x : Kept} → StepNumber side (r .assets) (entry side) x → Ranged x
-    unfolding lossBudget
+    unfolding layerBudget tailBudget
     steps-ranged side (of-chances number) =
         chances-ranged v (within .entries side) (placed .at-most-one) (placed .denominators) (omega (arith, within .parts, placed .places, within .assets)) number
     steps-ranged side (of-tails number) =
         tails-ranged chances-bounded (within .complete) side m (placed .denominator) (within .parts, placed .places) number
     steps-ranged side (of-losses R A B B≤1 number) =
         losses-ranged chances-bounded (within .complete) side m (placed .denominator) (within .parts, placed .places) R A B (narrow A B B≤1) number
+    steps-ranged side (of-layers i j l number) =
+        layers-ranged chances-bounded (within .complete) side m (placed .denominator) (within .parts, placed .places) i j l (within .assets) number
 
   -- Printed tails of the low side, less than the tenths of a tail below the exact ones: 0.3 units are 6,442 parts of certainty, 0.8 units 17,179.
   pub row-tails : let tail-parts = tailBudget (r .assets) (chanceBudget (r .assets) b) in
@@ -78,22 +89,22 @@ module _ {b : ℕ} {r : Chances} {v : ℕ → Fraction} {entry : Side → ℕ �
       (λ l. printed-tails chances-bounded (within .complete) (omega (arith, few l)))
       (λ l. printed-tails chances-bounded (within .complete) (omega (arith, more l)))
 
-  -- Where two numbers at the budget of a loss are at most one part in g apart, all bounds are.
-  module _ {g : ℕ} (fine : BudgetFor g (lossBudget (r .assets) (chanceBudget (r .assets) b))) where
+  -- Where two numbers at the budget of a layer are at most one part in g apart, all bounds are.
+  module _ {g : ℕ} (fine : BudgetFor g (layerBudget (r .assets) (chanceBudget (r .assets) b))) where
     pub row-enclosed : RowEnclosed g r (λ side. keptChances side (r .assets) (entry side))
-    unfolding lossBudget tailBudget
+    unfolding layerBudget tailBudget lossBudget
     row-enclosed = record {
       chances = chance-enclosed chances-bounded (budget-for-weaken (omega arith) fine);
       tails = tail-enclosed chances-bounded (budget-for-weaken (omega arith) fine);
-      losses = λ R A B B≤1 wide. loss-enclosed chances-bounded fine R A B (narrow A B B≤1) wide;
+      losses = λ R A B B≤1 wide. loss-enclosed chances-bounded (budget-for-weaken (omega arith) fine) R A B (narrow A B B≤1) wide;
+      layers = layer-enclosed chances-bounded fine;
     }
 
-    loss-holds : (R A B : ℕ) → B ≤ whole → (wide : 0 < (B - A) * r .assets) {loss : LossAnswer}
-        → loss ≡ lossAnswer (keptLoss Low (r .assets) (kept Low) R A B wide) (keptLoss High (r .assets) (kept High) R A B wide)
-        → HoldsLoss g r (λ side. keptChances side (r .assets) (entry side)) R A B wide loss
-    loss-holds R A B B≤1 wide is =
-        let enclosed = row-enclosed .losses R A B B≤1 wide in
-        record { answer-is = is; enclosed = enclosed; says = rw is (tranche-says (fine .positive) r (kept Low) (kept High) (within .complete) R A B wide enclosed) }
+    -- The loss of a layer.
+    pub layer-holds : (i j : ℕ) → j ≤ r .assets → {loss : LossAnswer} → loss ≡ lossOfLayer (r .assets) (λ side. keptChances side (r .assets) (entry side)) i j
+        → HoldsLayer g r (λ side. keptChances side (r .assets) (entry side)) i j loss
+    layer-holds i j l =
+        loss-holds (fine .positive) (λ side. layer-kept side (r .assets) (kept side) i j) (row-enclosed .layers i j l) (layer-at-most-one r (within .complete) i j)
 
     -- The losses of tranches in range.
     pub losses-hold : {ts : List Tranche} {losses : List LossAnswer} → 0 < r .assets → TranchesInRange ts
@@ -102,7 +113,8 @@ module _ {b : ℕ} {r : Chances} {v : ℕ → Fraction} {entry : Side → ℕ �
     losses-hold {ts} not-empty tranches are = record {
       wide = λ i l. tranche-wide not-empty (tranches .at i l .lower);
       loss = λ i l wide.
-          loss-holds _ _ _ (tranches .at i l .upper) wide (rw are (losses-at (r .assets) kept ts i l ∙ tranche-loss-is (r .assets) kept (trancheAt ts i) wide));
+          loss-holds (fine .positive) (λ side. loss-kept side (r .assets) (kept side) _ _ _ wide) (row-enclosed .losses _ _ _ (tranches .at i l .upper) wide)
+          (loss-at-most-one r _ _ _ wide (within .complete)) (rw are (losses-at (r .assets) kept ts i l ∙ tranche-loss-is (r .assets) kept (trancheAt ts i) wide));
       past = λ i l. rw are (losses-past (r .assets) kept ts i l);
     }
 
