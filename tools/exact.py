@@ -1,4 +1,5 @@
-"""Bounds, losses, printed tails, columns and shift lists held to the exact model, whose chances are worked out by the closed form.
+"""Bounds, losses, printed tails, columns, verdicts and shift lists held to the exact model, whose chances are worked out by the
+closed form.
 
 A model is its correlation after i defaults, and its steps."""
 from collections import namedtuple
@@ -7,8 +8,8 @@ from functools import lru_cache
 from itertools import accumulate
 from math import comb, prod
 
-from pools import UNITS, WHOLE, beta_quotients, beta_steps, layer, loss, loss_units, printed_rows, printed_tails, shifts
-from pools import steps, tails
+from pools import UNITS, WHOLE, beta_quotients, beta_steps, chance_units, layer, loss, loss_units, printed_rows, printed_tails
+from pools import shifts, steps, tails
 
 Model = namedtuple("Model", "correlation steps")
 # The most assets whose bounds have the finer distance, and whose printed rows are the nearer ones.
@@ -153,6 +154,23 @@ def hold_column(n, p, rho, model=MOODY):
     assert printed[0] == UNITS and printed[n + 1] == 0 and sum(rows) == UNITS and min(rows) >= 0
     assert all(-below * whole < 10 * (printed[k] * whole - UNITS * exact[k]) <= 5 * whole for k in range(n + 2))
     assert all(10 * abs(rows[k] * whole - UNITS * (exact[k] - exact[k + 1])) < off * whole for k in range(n + 1))
+
+
+def nearest(n, p, rho, down=False):
+    """The exact chances in whole units, to nearest; what is exactly half way goes up, or down."""
+    chances, whole = exact_chances(n, p, rho)
+    return [(2 * UNITS * chance + whole - down) // (2 * whole) for chance in chances]
+
+
+def hold_check(n, p, rho, claims, failing):
+    """What is promised of a check that names a row, or none: the rows before it are at most half a unit and the distance of the
+    bounds off, and it is more than half a unit off. So rows that are all at most half a unit off pass."""
+    low, high = (chance_units(side, n, p, rho) for side in (0, 1))
+    chances, whole = exact_chances(n, p, rho)
+    # How much more than one unit twice the distance of a row is, over the same denominator.
+    more = [2 * abs(claim * whole - UNITS * chance) - whole for claim, chance in zip(claims, chances)]
+    assert all(more[k] <= 0 or more[k] <= 2 * (high[k] - low[k]) * whole for k in range(n + 1 if failing is None else failing))
+    assert failing is None or more[failing] > 0
 
 
 @lru_cache(maxsize=None)

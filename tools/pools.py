@@ -16,6 +16,7 @@ EXACT_ASSETS = 64
 SCREEN_POOL = 20
 TRANCHES = 8
 UNITS = 100000
+HALF = Fraction(1, 2)
 LEAST_SHOWN = (2**31, -831)
 
 
@@ -115,7 +116,7 @@ def layer(side, chances, i, j):
 
 def in_units(x):
     """A fraction in whole units, to nearest; what is exactly half way goes up."""
-    return floor(UNITS * x + Fraction(1, 2))
+    return floor(UNITS * x + HALF)
 
 
 def printed_tails(chances):
@@ -131,6 +132,22 @@ def printed_rows(chances):
 def shifts(chances, base):
     """The printed tails at 0 to n from chances of the low side, less those from others."""
     return [x - y for x, y in zip(printed_tails(chances), printed_tails(base))][:len(chances)]
+
+
+@lru_cache(maxsize=256)
+def chance_units(side, n, p, rho):
+    """The chances of 0 to n defaults in units, not rounded."""
+    return [UNITS * value(x) for x in steps(side, n, p, rho)[1]]
+
+
+def row_passes(low, high, claim):
+    """Some number from low to high is at most half a unit from the claim, all of them in units."""
+    return low <= claim + HALF and claim <= high + HALF
+
+
+def first_to_fail(low, high, claims, passes=row_passes):
+    """The first row whose claim does not pass, or None. Claims behind the last row are not looked at."""
+    return next((k for k, row in enumerate(zip(low, high, claims)) if not passes(*row)), None)
 
 
 def bits(x):

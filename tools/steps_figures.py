@@ -5,10 +5,18 @@ stops at the first that neither Cases.antt nor BetaBinomial/Cases.antt in crates
 """
 from pathlib import Path
 
-from pools import beta_steps, layer, loss, printed_rows, printed_tails, shifts, steps, summed_counts, tails
+from pools import beta_steps, chance_units, first_to_fail, layer, loss, printed_rows, printed_tails, shifts, steps, summed_counts
+from pools import tails
 
 SPECS = Path(__file__).parent.parent / "crates/steps/specs"
 CASES = (SPECS / "Cases.antt").read_text() + (SPECS / "BetaBinomial/Cases.antt").read_text()
+# Pools, and claimed columns of each.
+VERDICTS = [
+    ((2, 5000, 625), [26562, 46875, 26563]), ((2, 5000, 625), [26563, 46875, 26562]), ((2, 5000, 625), [26562, 46875, 26564]),
+    ((2, 5000, 625), [26562, 46876, 26562]), ((2, 5000, 625), [26562, 46874, 26562]), ((2, 5000, 625), [26561, 46876, 26561]),
+    ((3, 1000, 3000), [79032, 14005, 4895, 2068]), ((3, 500, 500), [86393, 12284, 1253, 70]),
+    ((3, 500, 500), [86393, 12284, 1254, 70, 2**32 - 1]),
+]
 
 
 def line(text):
@@ -56,6 +64,10 @@ def main():
         significand, exponent = made[side][1]
         line(f"(keptRow {name} 0 3000 1 1 ≡ record {{ significand = {significand}; exponent = pos {exponent} }})")
     digits("λ side. keptRow side 0 3000 1 0", lambda side: made[side][0])
+    for pool, claims in VERDICTS:
+        row = first_to_fail(*(chance_units(side, *pool) for side in (0, 1)), claims)
+        listed = " ∷ ".join([*map(str, claims), "[]"])
+        line(f"(verdictFor {' '.join(map(str, pool))} ({listed}) ≡ {'Passed' if row is None else f'Fails {row}'})")
     made = [beta_steps(side, 3, 1000, 3000) for side in (0, 1)]
     for j in range(4):
         digits(f"λ side. keptEntry side 3 1000 3000 {j}", lambda side: made[side][0][-1][j])

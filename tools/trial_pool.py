@@ -1,15 +1,15 @@
 """The lines that crates/trial_pool prints of a call, and the inputs of crates/trial_inputs, by tools/pools.py. Every bound, every
-column, every shift list and every loss is held to the exact model.
+column, every shift list, every loss and every verdict is held to the exact model.
 
 A library is "" (the one of the pool), "screen" or "beta"; a tranche is a recovery and two attachments."""
 from fractions import Fraction
 
-from exact import BETA, MOODY, hold_bounds, hold_column, hold_layer, hold_loss, hold_quotients, hold_same, hold_shifts
-from exact import library_parts, screen_parts
+from exact import BETA, MOODY, hold_bounds, hold_check, hold_column, hold_layer, hold_loss, hold_quotients, hold_same
+from exact import hold_shifts, library_parts, screen_parts
 from kept import value
 from pools import LARGEST_POOL, REPORT_POOL, SCREEN_POOL, TRANCHES, UNITS, WHOLE, beta_column_refusal, beta_loss_refusal
-from pools import column_refusal, fill_refusal, layer, layer_refusal, loss, loss_answer, loss_refusal, printed_rows, row_refusal
-from pools import shift_refusal, shifts, tails
+from pools import chance_units, column_refusal, fill_refusal, first_to_fail, layer, layer_refusal, loss, loss_answer
+from pools import loss_refusal, printed_rows, row_refusal, shift_refusal, shifts, tails
 from trial_support import SEED, checksum, following, line
 
 # The places of a store and of a list that are lent where enough are: for up to 64 assets, and for more.
@@ -322,6 +322,23 @@ def layer_loss(pool, i, j, lengths=None, other=()):
     losses = [] if refusal else [held_layer(*pool, i, j)]
     loss_line("layer", "", pool, [i, j], refusal, losses, lengths, other)
     return refusal, losses
+
+
+def verdict(n, p, rho, claims):
+    """What a check of an accepted pool answers, held to the exact model."""
+    row = first_to_fail(*(chance_units(side, n, p, rho) for side in (0, 1)), claims)
+    hold_check(n, p, rho, claims, row)
+    return ("passed",) if row is None else ("fails", row)
+
+
+def check(pool, claims, lengths, other=()):
+    """A check of a claimed column. Gives what it answers."""
+    refusal = column_refusal(*pool, lengths, len(claims))
+    answer = ("refusal", refusal) if refusal else verdict(*pool, claims)
+    given = ["over", *other, "check", *pool] if other else ["check", *pool, "lengths", *lengths]
+    words = store_words([] if refusal else held(*pool), lengths, made(*other) if other else ())
+    line(*given, *answer, "claims", len(claims), checksum(claims), *words)
+    return answer
 
 
 def basis_points(word):

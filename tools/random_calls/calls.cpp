@@ -1,6 +1,7 @@
 // Makes random calls of the library, and compares all that each leaves and answers with the steps and with the exact model.
 #include <cstdlib>
 #include <string>
+#include "claims.hpp"
 #include "exact.hpp"
 #include "grounds.hpp"
 #include "lent.hpp"
@@ -200,6 +201,23 @@ static void layer_call(Random &random, Tally &tally) {
     });
 }
 
+static void check_call(Random &random, Tally &tally) {
+    Pool pool = random_pool(random);
+    LentStore store(random, places(pool.assets));
+    Lent<uint32_t> claims(random, slice_length(random, measured(pool.assets) + 1));
+    bool right = pool_refusal(LIBRARY, pool) == 0 && put_claims(random, pool, claims);
+    uint32_t refusal = first_of({pool_refusal(LIBRARY, pool), room_refusal(LIBRARY, pool, store),
+                                 list_ground(8, pool.assets, claims.length)});
+    Verdict wanted{REFUSED, refusal}, given;
+    if (refusal == 0) wanted = check_column(pool, store.wanted(), claims.data());
+    given.kind = trial_check_column(POOL_OF(pool), SLICE_OF(claims), SLICES_OF(store), &given.number);
+    tally.verdicts[wanted.kind]++;
+    bool same = given.kind == wanted.kind && given.number == wanted.number && claims.as_wanted();
+    conclude(tally, LIBRARY, pool, store, refusal, same && (wanted.kind != FAILS || !right), [&](const Exact &exact) {
+        return verdict_holds(library_parts(pool.assets), exact, claims.data(), wanted);
+    });
+}
+
 static const struct {
     const char *name;
     void (*call)(Random &, Tally &);
@@ -216,6 +234,7 @@ static const struct {
     {"beta_binomial tranche_losses", losses_call<BETA_BINOMIAL>},
     {"reply_to_start", reply_call},
     {"layer_loss", layer_call},
+    {"check_column", check_call},
 };
 
 // The number of calls of each kind, the seed, and the only kind to be tried, if there is one.

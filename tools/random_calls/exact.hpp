@@ -1,4 +1,4 @@
-// The exact model in whole numbers, and what is promised of bounds, losses, columns and shift lists.
+// The exact model in whole numbers, and what is promised of bounds, losses, columns, verdicts and shift lists.
 #pragma once
 #include <gmpxx.h>
 #include <algorithm>
@@ -140,6 +140,26 @@ inline bool column_holds(const Exact &exact, const uint32_t *units) {
         if (!is_near(units[k], exact.chances[k], exact.whole, exact.n <= 64 ? 15 : 20)) return false;
     }
     return total == UNITS;
+}
+
+// The exact chances in whole units, to nearest; what is exactly half way goes up, or down.
+inline void nearest_rows(const Exact &exact, bool down, uint32_t *units) {
+    for (uint32_t k = 0; k <= exact.n; k++) {
+        mpz_class row = (2 * UNITS * exact.chances[k] + exact.whole - (down ? 1 : 0)) / (2 * exact.whole);
+        units[k] = uint32_t(row.get_ui());
+    }
+}
+
+// The rows before the one that fails are at most half a unit and one part in so many of their chance off, and it is more than
+// half a unit off.
+inline bool verdict_holds(uint32_t parts, const Exact &exact, const uint32_t *claims, Verdict verdict) {
+    for (uint32_t k = 0; k <= exact.n; k++) {
+        mpz_class off = exact.whole * claims[k] - exact.chances[k] * UNITS;
+        mpz_class more = 2 * abs(off) - exact.whole;
+        if (verdict.kind == FAILS && k == verdict.number) return more > 0;
+        if (more * parts > 2 * UNITS * exact.chances[k]) return false;
+    }
+    return verdict.kind == PASSED;
 }
 
 inline bool shifts_hold(const Exact &exact, const Exact &base, const int32_t *shifts) {

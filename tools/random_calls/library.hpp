@@ -23,5 +23,6 @@ uint32_t trial_beta_losses(uint32_t, uint32_t, uint32_t, const uint32_t *records
                            double *firsts, double *seconds);
 uint32_t trial_layer_loss(uint32_t, uint32_t, uint32_t, uint32_t i, uint32_t j, STORE_SLICES, uint32_t *kind, double *first,
                           double *second);
+uint32_t trial_check_column(uint32_t, uint32_t, uint32_t, const uint32_t *claims, size_t, STORE_SLICES, uint32_t *number);
 size_t trial_reply(const uint8_t *start, size_t count, uint8_t *text);
 }

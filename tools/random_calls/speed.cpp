@@ -18,6 +18,7 @@ struct Arrays {
     int32_t shifts[ROWS];
     uint32_t kinds[TRANCHES];
     double firsts[TRANCHES], seconds[TRANCHES];
+    Verdict verdict;
 
     Store store() { return {low_significands, high_significands, low_exponents, high_exponents}; }
 };
@@ -28,6 +29,9 @@ static const Tranche tranches[TRANCHES] = {
     {4000, 1000, 3000}, {2000, 3000, 7000}, {0, 0, 10000},      {4000, 0, 300},
     {4000, 300, 700},   {6000, 1000, 4000}, {3000, 6000, 7000}, {5000, 0, 5000},
 };
+
+// A column for the pool whose rows all pass.
+static uint32_t claims[ROWS];
 
 #define SLICES_OF(arrays) \
     arrays.low_significands, PLACES, arrays.high_significands, PLACES, arrays.low_exponents, PLACES, arrays.high_exponents, PLACES
@@ -47,6 +51,11 @@ static void library_shifts(Pool pool) { trial_shift_list(POOL_OF(pool), SLICES_O
 static void library_layer(Pool pool) {
     trial_layer_loss(POOL_OF(pool), 1, pool.assets, SLICES_OF(by_library), by_library.kinds, by_library.firsts,
                      by_library.seconds);
+}
+
+static void library_check(Pool pool) {
+    Verdict &verdict = by_library.verdict;
+    verdict.kind = trial_check_column(POOL_OF(pool), claims, ROWS, SLICES_OF(by_library), &verdict.number);
 }
 
 static void steps_fill(Pool pool) {
@@ -70,6 +79,8 @@ static void steps_losses(Pool pool) {
 }
 
 static void steps_layer(Pool pool) { put_answer(0, layer_loss(pool, by_steps.store(), {1, pool.assets})); }
+
+static void steps_check(Pool pool) { by_steps.verdict = check_column(pool, by_steps.store(), claims); }
 
 static void steps_shifts(Pool pool) { shift_list(pool, by_steps.store(), by_steps.shifts); }
 
@@ -98,10 +109,12 @@ int main(int count, char **words) {
     for (uint32_t correlation : {3000, 0})
         for (uint32_t assets : {4, 20, 64, 100}) {
             Pool pool{assets, 1000, correlation};
+            nearest_bounds<LOW>(pool, claims);
             compare("fill", library_fill, steps_fill, pool, runs);
             compare("column", library_column, steps_column, pool, runs);
             compare("tranche_losses, eight", library_losses, steps_losses, pool, runs);
             compare("layer_loss, all defaults", library_layer, steps_layer, pool, runs);
+            compare("check_column", library_check, steps_check, pool, runs);
             if (assets <= REPORT_POOL) compare("shift_list", library_shifts, steps_shifts, pool, runs);
         }
 }

@@ -36,6 +36,13 @@ struct Bounds {
     Kept low, high;
 };
 
+// A kind, and the number of the refusal or of the row that fails.
+enum VerdictKind : uint32_t { REFUSED, PASSED, FAILS };
+
+struct Verdict {
+    uint32_t kind, number;
+};
+
 inline size_t row_start(size_t k) { return k * (k + 1) / 2; }
 
 inline void write_row(const Kept *row, uint32_t k, uint32_t *significands, int32_t *exponents) {
@@ -145,11 +152,11 @@ Kept expected_layer(uint32_t n, const Kept *row, Layer layer) {
     return quotient(total.significand, layer.j - layer.i + 1, total.exponent, side);
 }
 
-// 100,000 times a low tail plus one half, rounded down. The tail is at most one.
-inline uint32_t printed(Kept tail) {
-    int32_t digits = -tail.exponent;
-    if (tail.significand == 0 || digits > 60) return 0;
-    return uint32_t((2 * uint64_t(UNITS) * tail.significand + (uint64_t(1) << digits)) >> (digits + 1));
+// 100,000 times a tail or a chance plus one half, rounded down. It is below two.
+inline uint32_t printed(Kept x) {
+    int32_t digits = -x.exponent;
+    if (x.significand == 0 || digits > 60) return 0;
+    return uint32_t((2 * uint64_t(UNITS) * x.significand + (uint64_t(1) << digits)) >> (digits + 1));
 }
 
 // The printed tails at 0 to n from row n of the low side, and 0 behind them.
@@ -166,6 +173,22 @@ inline void print_rows(uint32_t n, const Kept *row, uint32_t *units) {
     uint32_t tails[ROWS + 1];
     printed_tails(n, row, tails);
     for (uint32_t k = 0; k <= n; k++) units[k] = tails[k] - tails[k + 1];
+}
+
+// The sign of 200,000 * x - number, for a chance x and a number below 2^34. No chance has an exponent above 0, and that of zero
+// is 0.
+inline int half_units_above(Kept x, uint64_t number) {
+    uint64_t word = 2 * uint64_t(UNITS) * x.significand;
+    // The word is below 2^50.
+    if (x.exponent < -64) return number == 0 ? 1 : -1;
+    unsigned __int128 other = static_cast<unsigned __int128>(number) << -x.exponent;
+    return (word > other) - (word < other);
+}
+
+// Some number between the bounds, in units, is at most half a unit from the claim.
+inline bool row_passes(Bounds chance, uint32_t claim) {
+    uint64_t claimed = 2 * uint64_t(claim);
+    return half_units_above(chance.low, claimed + 1) <= 0 && (claim == 0 || half_units_above(chance.high, claimed - 1) >= 0);
 }
 
 inline bool below_shown(Kept x) { return x.significand == 0 || x.exponent < -831; }
@@ -208,6 +231,33 @@ inline Bounds layer_loss(Pool pool, Store store, Layer layer) {
     Kept low[ROWS], high[ROWS];
     fill(pool, store, low, high);
     return {expected_layer<LOW>(pool.assets, low, layer), expected_layer<HIGH>(pool.assets, high, layer)};
+}
+
+// The chances of either side.
+inline void chance_bounds(uint32_t n, const Kept *low_row, const Kept *high_row, Bounds *bounds) {
+    Kept low[ROWS], high[ROWS];
+    chances_of<LOW>(n, low_row, low);
+    chances_of<HIGH>(n, high_row, high);
+    for (uint32_t k = 0; k <= n; k++) bounds[k] = {low[k], high[k]};
+}
+
+// A bound of each chance in whole units, to nearest: claims that pass.
+template <Side side>
+void nearest_bounds(Pool pool, uint32_t *units) {
+    Kept row[ROWS], chances[ROWS];
+    moody_rows<side>(pool, nullptr, nullptr, row);
+    chances_of<side>(pool.assets, row, chances);
+    for (uint32_t k = 0; k <= pool.assets; k++) units[k] = printed(chances[k]);
+}
+
+inline Verdict check_column(Pool pool, Store store, const uint32_t *claims) {
+    Kept low[ROWS], high[ROWS];
+    Bounds chances[ROWS];
+    fill(pool, store, low, high);
+    chance_bounds(pool.assets, low, high, chances);
+    for (uint32_t k = 0; k <= pool.assets; k++)
+        if (!row_passes(chances[k], claims[k])) return {FAILS, k};
+    return {PASSED, 0};
 }
 
 inline void shift_list(Pool pool, Store store, int32_t *shifts) {

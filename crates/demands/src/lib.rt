@@ -1,5 +1,6 @@
 // Each call with the page of demands for its contract. Nothing is added to the calls: that these functions are proved shows that the
 // contracts in their source imply the page.
+use column_check::Verdict;
 use pool::Answer;
 use pool::LayerAnswer;
 use pool::Pool;
@@ -10,7 +11,7 @@ ghost use Prim.Native.Nat.{ℕ};
 ghost use lib.ListN.{length};
 ghost use Rattle.grounds.specs.Grounds.{firstGround, rowGrounds};
 ghost use Rattle.pool.specs.Demands.{BetaColumnDemands, BetaTranchesDemands};
-ghost use Rattle.pool.specs.Demands.{lent, FillDemands, RowDemands, ColumnDemands, ShiftDemands, TranchesDemands, LayerDemands, ScreenColumnDemands, ScreenTranchesDemands};
+ghost use Rattle.pool.specs.Demands.{lent, FillDemands, RowDemands, ColumnDemands, ShiftDemands, TranchesDemands, LayerDemands, CheckDemands, ScreenColumnDemands, ScreenTranchesDemands};
 
 pub fn fill(
     pool: Pool,
@@ -113,6 +114,30 @@ pub fn tranche_losses(
         pool,
         tranches,
         count,
+        low_significands,
+        high_significands,
+        low_exponents,
+        high_exponents,
+    )
+}
+
+pub fn check_column(
+    pool: Pool,
+    claims: &[u32],
+    low_significands: &mut [u32],
+    high_significands: &mut [u32],
+    low_exponents: &mut [i32],
+    high_exponents: &mut [i32],
+) -> Verdict
+    ensures { λ r. ⌜ CheckDemands pool
+        (now (claims .entry))
+        (lent (now («low_significands» .entry)) (now («high_significands» .entry)) (now («low_exponents» .entry)) (now («high_exponents» .entry)))
+        (lent (now («low_significands» .exit)) (now («high_significands» .exit)) (now («low_exponents» .exit)) (now («high_exponents» .exit)))
+        r ⌝ }
+{
+    column_check::check_column(
+        pool,
+        claims,
         low_significands,
         high_significands,
         low_exponents,

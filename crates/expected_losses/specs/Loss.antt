@@ -4,12 +4,12 @@ use Prim.Native.Nat.{ℕ, suc, _-_, _*_, _≤_, _<_}
 use mathlib.Core.Path.{_≡_}
 use mathlib.Core.List.{List, map}
 use lib.ListN.{take, replicate}
-use Rattle.model.specs.Fraction.{AtMost, integer, whole}
+use Rattle.model.specs.Fraction.{whole}
 use Rattle.model.specs.Chances.{lossUnits}
 use Rattle.kept.specs.declared.Kept.{Kept}
 use Rattle.kept.specs.declared.Side.{Side}
 use Rattle.kept.specs.declared.Side.the-variants.{Low, High}
-use Rattle.kept.specs.Rounding.{IsKept, value, ofInteger}
+use Rattle.kept.specs.Rounding.{ofInteger}
 use Rattle.steps.specs.Chances.{keptChances, keptLoss}
 use Rattle.steps.specs.Numbers.{LossNumber}
 use Rattle.steps.specs.Loss.{LossAnswer, untouched, faint, shown}
@@ -21,7 +21,7 @@ use Rattle.expected_losses.specs.declared.Loss.{Loss}
 use Rattle.expected_losses.specs.declared.Loss.the-variants.{Untouched, Faint, Shown}
 use Rattle.expected_losses.specs.declared.TrancheLoss.{TrancheLoss}
 use Rattle.expected_losses.specs.declared.Answer.{Answer}
-use Rattle.chances.specs.Chances.{RowReady, StepsReady}
+use Rattle.chances.specs.Chances.{RowReady, StepsReady, OnSides, Answerable}
 pub mod Laws
 pub mod Ready
 
@@ -49,13 +49,6 @@ lossOf (Shown b) = shown (b .low) (b .high)
 unfoldable pub lossesIn : List TrancheLoss → List LossAnswer
 lossesIn losses = map (λ l. lossOf (l .loss)) losses
 
--- Two bounds of a loss: kept numbers in their order, at most two.
-pub record Answerable (low high : Kept) : Type 0 where
-  pub low-kept : IsKept low
-  pub high-kept : IsKept high
-  pub order : AtMost (value low) (value high)
-  pub most : AtMost (value high) (integer 2)
-
 -- All losses of a refused call are untouched.
 pub record AnswersRefusal (number : ℕ) (answer : Answer) : Type 0 where
   pub refusal-is : answer .refusal ≡ number
@@ -64,11 +57,6 @@ pub record AnswersRefusal (number : ℕ) (answer : Answer) : Type 0 where
 -- ---- from the chances of either side
 
 module _ (n : ℕ) (low high : List Kept) where
-  -- What stands in two working rows, that of the low side and that of the high one.
-  pub record OnSides (c : Side → ℕ → Kept) : Type 0 where
-    pub on-low : Entries workingPlaces (suc n) low (c Low)
-    pub on-high : Entries workingPlaces (suc n) high (c High)
-
   -- What the loss of a tranche asks.
   pub record TrancheReady (t : Tranche) : Type 0 where
     pub not-empty : 0 < n
@@ -81,7 +69,7 @@ module _ (n : ℕ) (low high : List Kept) where
 
   -- What it leaves: the answer that the two bounds of step 6 give.
   pub record TrancheAnswered (t : Tranche) (loss : LossAnswer) : Type 0 where
-    pub answer-is : (c : Side → ℕ → Kept) → OnSides c → loss ≡ trancheLoss n c t
+    pub answer-is : (c : Side → ℕ → Kept) → OnSides n low high c → loss ≡ trancheLoss n c t
 
   -- What the losses of the first so many tranches ask, and what they are.
   pub record EachReady (ts : List Tranche) (count : ℕ) : Type 0 where
@@ -89,7 +77,7 @@ module _ (n : ℕ) (low high : List Kept) where
     pub ready : (i : ℕ) → i < count → TrancheReady (trancheAt ts i)
 
   pub record EachAnswered (ts : List Tranche) (losses : List LossAnswer) : Type 0 where
-    pub answers-are : (c : Side → ℕ → Kept) → OnSides c → losses ≡ trancheLosses n c ts
+    pub answers-are : (c : Side → ℕ → Kept) → OnSides n low high c → losses ≡ trancheLosses n c ts
 
 -- ---- from row n of either side
 

@@ -15,7 +15,8 @@ ghost use Rattle.kept.specs.Rounding.{IsKept};
 ghost use Rattle.steps.specs.Inputs.{workingAssets, TrancheInRange};
 ghost use Rattle.steps.specs.Loss.{untouched, lossAnswer, raisedToShown};
 ghost use Rattle.steps.specs.Tranches.{tranchePlaces};
-ghost use Rattle.expected_losses.specs.Loss.{UnitsMade, LossReady, LossMade, Answerable, lossOf, TrancheReady, TrancheAnswered, EachReady, EachAnswered, lossesIn, AnswersRefusal, TranchesReady, AnswersTranches};
+ghost use Rattle.chances.specs.Chances.{Answerable};
+ghost use Rattle.expected_losses.specs.Loss.{UnitsMade, LossReady, LossMade, lossOf, TrancheReady, TrancheAnswered, EachReady, EachAnswered, lossesIn, AnswersRefusal, TranchesReady, AnswersTranches};
 
 // The two bounds of a loss.
 pub struct Bounds {

@@ -72,7 +72,7 @@ attachmentsGround A B = record { number = 6; applies = not (ltb A B) }
 unfoldable pub storeGround : (n : ℕ) (lengths : List ℕ) → Ground
 storeGround n lengths = record { number = 7; applies = someShorter (storePlaces n) lengths }
 
--- A slice has no room for its entries 0 to n. 8 is that of a column, 10 that of a shift list.
+-- A slice has no room for its entries 0 to n. 8 is that of a column, printed or claimed, 10 that of a shift list.
 unfoldable pub entriesGround : (number n places : ℕ) → Ground
 entriesGround number n places = record { number = number; applies = ltb places (n + 1) }
 
@@ -127,7 +127,7 @@ rowGrounds most n k length = assetsGround most n ∷ storeGround n (length ∷ [
 unfoldable pub entriesGrounds : (number most n p ρ : ℕ) (lengths : List ℕ) (places : ℕ) → List Ground
 entriesGrounds number most n p ρ lengths places = fillGrounds most n p ρ lengths ++ (entriesGround number n places ∷ [])
 
--- 1 to 3, 7 and 8.
+-- 1 to 3, 7 and 8, of a column that is printed and of one that is checked.
 unfoldable pub columnGrounds : (most n p ρ : ℕ) (lengths : List ℕ) (units : ℕ) → List Ground
 columnGrounds = entriesGrounds 8
 
@@ -194,7 +194,7 @@ pub record RowAccepted (n k length : ℕ) : Type 0 where
   pub store : triangle (suc n) ≤ length
   pub row : k ≤ n
 
--- Of a call that also writes entries 0 to n to a slice beside the store: a column, a shift list.
+-- Of a call that is also lent a slice for entries 0 to n beside the store: a column, printed or claimed, a shift list.
 pub record EntriesAccepted (most n p ρ : ℕ) (lengths : List ℕ) (places : ℕ) : Type 0 where
   pub fill : FillAccepted most n p ρ lengths
   pub entries : n < places

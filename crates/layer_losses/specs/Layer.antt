@@ -14,8 +14,8 @@ use Rattle.steps.specs.Loss.{untouched}
 use Rattle.steps.specs.Layers.{lossOfLayer}
 use Rattle.steps.specs.Inputs.{workingAssets, LayerInRange}
 use Rattle.working.specs.Working.{workingPlaces, Entries}
-use Rattle.chances.specs.Chances.{StepsReady}
-use Rattle.expected_losses.specs.Loss.{lossOf, Answerable, OnSides}
+use Rattle.chances.specs.Chances.{StepsReady, OnSides, Answerable}
+use Rattle.expected_losses.specs.Loss.{lossOf}
 use Rattle.layer_losses.specs.declared.LayerAnswer.{LayerAnswer}
 pub mod Laws
 pub mod Ready

@@ -2,8 +2,9 @@
 -- Assumes nothing.
 use Prim.Native.Nat.{ℕ, _+_, _*_, _-_, _^_, _≤_, _<_}
 use mathlib.Core.Path.{_≡_}
+use mathlib.Core.Bool.{Bool}
 use native.Mathlib.Nat.{mul-pos, one-le-pow}
-use lib.Dec.{lit<}
+use lib.Dec.{leb, lit<}
 pub mod Laws
 
 -- A whole numerator over a whole denominator above zero. A fraction is never reduced: two are compared by cross products.
@@ -19,6 +20,10 @@ pub record Same (x y : Fraction) : Type 0 where
 -- x ≤ y
 pub record AtMost (x y : Fraction) : Type 0 where
   pub cross : x .num * y .den ≤ y .num * x .den
+
+-- Whether x ≤ y.
+unfoldable pub atMost : (x y : Fraction) → Bool
+atMost x y = leb (x .num * y .den) (y .num * x .den)
 
 -- x < y
 pub record Less (x y : Fraction) : Type 0 where
@@ -36,6 +41,14 @@ certainty = record { num = 1; den = 1; positive = lit< tt }
 unfoldable pub plus : Fraction → Fraction → Fraction
 plus x y = record {
   num = x .num * y .den + y .num * x .den;
+  den = x .den * y .den;
+  positive = mul-pos (x .positive) (y .positive);
+}
+
+-- x − y, and zero where y is the greater.
+unfoldable pub minus : Fraction → Fraction → Fraction
+minus x y = record {
+  num = x .num * y .den - y .num * x .den;
   den = x .den * y .den;
   positive = mul-pos (x .positive) (y .positive);
 }

@@ -5,7 +5,8 @@
 -- beta-binomial.
 -- 3. The two are at most one part in 100,000 apart for up to 64 assets and one part in 50,000 for more, on the quote screen one part in 1,000,000; the rows of a
 -- column are differences of tails rounded to nearest, add to exactly 100,000 units, and each is less than 1.5 units off for up to 64 assets and less than 2 units for
--- more; the entries of a shift list past the first add to less than 1.3 units for each asset, and each is less than 1.3 units off.
+-- more; the entries of a shift list past the first add to less than 1.3 units for each asset, and each is less than 1.3 units off; a claimed row that is at most half
+-- a unit off passes, and one that passes is at most half a unit and 100,000 × (high − low) off, which is at most 1.5 units for up to 64 assets and 2.5 for more.
 -- Assumes nothing.
 use Prim.Native.Nat.{ℕ, suc, _+_, _-_, _*_, _/_, _%_, _^_, _≤_, _<_}
 use mathlib.Core.Path.{_≡_}
@@ -19,7 +20,7 @@ use lib.ListN.{length, getD, drop}
 use lib.Ieee.{Float, binary64, toBits}
 use lib.Ieee.Exact.{HasValue}
 use Rattle.model.specs.Number.{sum, integerSum}
-use Rattle.model.specs.Fraction.{Fraction, Same, AtMost, Less, integer, plus, times}
+use Rattle.model.specs.Fraction.{Fraction, Same, AtMost, Less, integer, plus, minus, times}
 use Rattle.model.specs.Chances.{Chances, chance, tail, expectedLoss, layerLoss}
 use Rattle.model.specs.CorrelatedBinomial.{probability, defaults}
 use Rattle.model.specs.BetaBinomial.{betaProbability, betaDefaults}
@@ -30,6 +31,8 @@ use Rattle.kept.specs.Rounding.{scaled, value}
 use Rattle.steps.specs.CorrelatedBinomial.Rows.{keptRow}
 use Rattle.steps.specs.Chances.{keptTail, keptLoss, keptLayer}
 use Rattle.steps.specs.Column.{printedTail}
+use Rattle.steps.specs.declared.Verdict.{Verdict}
+use Rattle.steps.specs.declared.Verdict.the-variants.{Refused, Passed, Fails}
 use Rattle.steps.specs.CorrelatedBinomial.{keptDefaults}
 use Rattle.steps.specs.CorrelatedBinomial.Exponents.{PoolNumber}
 use Rattle.steps.specs.BetaBinomial.{keptEntry, keptBetaDefaults, BetaNumber}
@@ -122,6 +125,71 @@ pub record Demand3Shifts (n : ℕ) (low lowOther : ℕ → Kept) (printed other 
   pub not-below : (k : ℕ) → k ≤ n
       → Less (plus (integer (other k)) (times (integer 100000) (exact k))) (plus (plus (integer (printed k)) (times (integer 100000) (exactOther k))) oneAndThreeTenths)
   pub total : Less (integer (natAbs (integerSum n (λ i. getD shifts (suc i) (pos 0))))) (times (integer n) oneAndThreeTenths)
+
+-- ---- a claimed column
+
+-- x is at most `off` from y.
+pub record NoFurther (off x y : Fraction) : Type 0 where
+  pub not-above : AtMost x (plus y off)
+  pub not-below : AtMost y (plus x off)
+
+-- A claimed row passes by the bounds of its chance: some number from 100,000 times the low bound to 100,000 times the high one is at most one half from the claim.
+pub record ClaimPasses (low high : Kept) (claim : ℕ) : Type 0 where
+  pub number : Fraction
+  pub from-low : AtMost (times (integer 100000) (value low)) number
+  pub to-high : AtMost number (times (integer 100000) (value high))
+  pub near : NoFurther oneHalf (integer claim) number
+
+-- x to the nearest whole number. What is exactly half way goes down on the low side, and up on the high side.
+unfoldable pub nearestTo : Side → Fraction → ℕ
+nearestTo Low x = (2 * x .num + x .den - 1) / (2 * x .den)
+nearestTo High x = (2 * x .num + x .den) / (2 * x .den)
+
+-- The number of a refusal that a verdict tells, or 0.
+abbrev pub refusalOf : Verdict → ℕ
+refusalOf (Refused number) = number
+refusalOf Passed = 0
+refusalOf (Fails k) = 0
+
+-- 2.5
+unfoldable pub twoAndAHalf : Fraction
+twoAndAHalf = record { num = 5; den = 2; positive = lit< tt }
+
+-- A claimed row for n assets that passes is at most so many units off: 1.5 for up to 64 assets, and 2.5 for more.
+unfoldable pub claimOff : ℕ → Fraction
+claimOff n = cond (ltb 64 n) twoAndAHalf oneAndAHalf
+
+module _ (n : ℕ) (c : Side → ℕ → Kept) (exact : ℕ → Fraction) (claims : List ℕ) where
+  -- Row k of the claim passes.
+  abbrev pub ClaimPassesAt : ℕ → Type 0
+  ClaimPassesAt k = ClaimPasses (c Low k) (c High k) (getD claims k 0)
+
+  -- It is at most `off` units from 100,000 times the exact chance.
+  abbrev pub ClaimWithin : (off : Fraction) → ℕ → Type 0
+  ClaimWithin off k = NoFurther off (integer (getD claims k 0)) (times (integer 100000) (exact k))
+
+  -- Row k is the first to fail. It is more than half a unit off.
+  pub record FailsDemands (k : ℕ) : Type 0 where
+    pub row : k ≤ n
+    pub fails : ClaimPassesAt k → ⊥
+    pub before : (i : ℕ) → i < k → ClaimPassesAt i
+    pub far : ClaimWithin oneHalf k → ⊥
+
+  -- What a verdict says of rows 0 to n. No refusal is one.
+  abbrev pub VerdictSays : Verdict → Type 0
+  VerdictSays (Refused number) = ⊥
+  VerdictSays Passed = (k : ℕ) → k ≤ n → ClaimPassesAt k
+  VerdictSays (Fails k) = FailsDemands k
+
+  -- A row that is at most half a unit off passes, and so does a column of such rows: that of exact chances each rounded to nearest, where what is half way goes up or down as
+  -- each row likes. A row that passes is no further off than half a unit and 100,000 × (high − low), and no further than `claimOff n`.
+  pub record VerdictDemands (verdict : Verdict) : Type 0 where
+    pub says : VerdictSays verdict
+    pub near-row : (k : ℕ) → k ≤ n → ClaimWithin oneHalf k → ClaimPassesAt k
+    pub near : ((k : ℕ) → k ≤ n → ClaimWithin oneHalf k) → verdict ≡ Passed
+    pub rounded : (side : ℕ → Side) → ((k : ℕ) → k ≤ n → getD claims k 0 ≡ nearestTo (side k) (times (integer 100000) (exact k))) → verdict ≡ Passed
+    pub passed : (k : ℕ) → k ≤ n → ClaimPassesAt k → ClaimWithin (plus oneHalf (times (integer 100000) (minus (value (c High k)) (value (c Low k))))) k
+    pub passed-units : (k : ℕ) → k ≤ n → ClaimPassesAt k → ClaimWithin (claimOff n) k
 
 -- ---- what calls are given and leave
 
@@ -321,6 +389,12 @@ module _ (pool : Pool) where
     pub list : refusal ≡ 0
         → Demand3Shifts n (lowTails ρ) (lowTails 0) (printedTail n (keptDefaults Low n p ρ)) (printedTail n (keptDefaults Low n p 0))
         (tail (defaults n p ρ)) (tail (defaults n p 0)) shifts′
+
+  -- The check of a claimed column, which is lent to be read, so that no call can write to it. Its grounds are those of a column.
+  pub record CheckDemands (claims : List ℕ) (before after : Slices) (verdict : Verdict) : Type 0 where
+    pub one : Demand1 (columnGrounds 100 n p ρ (lengthsOf before) (length claims)) (refusalOf verdict) before after
+    pub store : StoreDemands partsFor before after (refusalOf verdict)
+    pub answer : refusalOf verdict ≡ 0 → VerdictDemands n (λ side. keptDefaults side n p ρ) (chance (defaults n p ρ)) claims verdict
 
   -- The layer call. The layer of all defaults loses p.
   pub record LayerDemands (i j : ℕ) (before after : Slices) (answer : LayerAnswer) : Type 0 where

@@ -1,14 +1,15 @@
--- Pools of 3 assets and of 2 by the steps, with layers, digit for digit; for p = 1000 and ρ = 3000 the column that the scope paper prints, and the shift list. The
--- digits were worked out in exact fractions by tools/steps_figures.py.
+-- Pools of 3 assets and of 2 by the steps, with layers, digit for digit; for p = 1000 and ρ = 3000 the column that the scope paper prints, and the shift list; verdicts on claims.
+-- The digits were worked out in exact fractions by tools/steps_figures.py.
 -- Assumes nothing.
 use Prim.Native.Nat.{ℕ, _-_, _*_, _≤_, _<_}
 use mathlib.Core.Path.{_≡_, refl}
+use mathlib.Core.List.{List, [], _∷_}
 use native.Mathlib.Omega.{arith}
 use lib.Dec.{lit<}
 use lib.IntN.{ℤ, pos, negsuc}
 use lib.Ieee.{size}
 use Rattle.model.specs.Number.{choose, pascalRow, raise}
-use Rattle.model.specs.Fraction.{integer, plus, times, divided, whole, complement, over}
+use Rattle.model.specs.Fraction.{atMost, integer, plus, minus, times, divided, whole, complement, over}
 use Rattle.model.specs.Passes.{pass, passed}
 use Rattle.model.specs.Chances.{lossAbove, lossUnits}
 use Rattle.kept.specs.declared.Kept.{Kept}
@@ -22,10 +23,13 @@ use Rattle.steps.specs.Inputs.{upTo}
 use Rattle.steps.specs.Inputs.Laws.{up-to}
 use Rattle.steps.specs.Counts.{exactAssets, summedCount, keptCount}
 use Rattle.steps.specs.Chances.{keptTotal, keptChance, keptChances, keptTail, keptTerm, keptLoss, keptLayer}
-use Rattle.steps.specs.Column.{unitsOfCertainty, exactUnits, half, inUnits, printedTail, printedRow}
+use Rattle.steps.specs.Column.{unitsOfCertainty, exactUnits, half, toNearest, inUnits, printedTail, printedRow}
 use Rattle.steps.specs.Shifts.{tailShift}
 use Rattle.steps.specs.CorrelatedBinomial.{keptDefaults}
 use Rattle.steps.specs.Loss.{untouched, faint, shown, keptLeastShown, raisedToShown, lossAnswer}
+use Rattle.steps.specs.declared.Verdict.{Verdict}
+use Rattle.steps.specs.declared.Verdict.the-variants.{Refused, Passed, Fails}
+use Rattle.steps.specs.Claims.{passes, firstToFail, refusalIn, verdictOn, verdictAfter}
 pub mod Rules
 
 -- s × 2^−(n+1)
@@ -56,6 +60,10 @@ threeLoss A B wide side = keptLoss side 3 (keptDefaults side 3 1000 3000) 4000 A
 
 abbrev threeShift : ℕ → ℤ
 threeShift k = tailShift 3 (keptDefaults Low 3 1000 3000) (keptDefaults Low 3 1000 0) k
+
+-- The verdict on claimed rows.
+abbrev verdictFor : (n p ρ : ℕ) → List ℕ → Verdict
+verdictFor n p ρ = verdictOn n (λ side. keptDefaults side n p ρ)
 
 pub cases :
     Digits (λ side. keptRow side 1000 3000 1 0) 3865470566 3865470567 31
@@ -118,7 +126,21 @@ pub cases :
     × (keptRow Low 0 3000 1 1 ≡ record { significand = 0; exponent = pos 0 })
     × (keptRow High 0 3000 1 1 ≡ record { significand = 0; exponent = pos 0 })
     × Digits (λ side. keptRow side 0 3000 1 0) 2147483648 2147483648 30
-unfolding scaled nought unity increment carry round roundedProduct roundedSum roundedQuotient ofInteger ofBasisPoints size choose raise integer plus times divided whole complement over pascalRow pass passed lossAbove lossUnits constant keptConditional keptJoint keptPower keptWeight keptPassStep keptRow keptTotal upTo exactAssets summedCount keptCount keptChance keptChances keptTail keptTerm keptLoss keptLayer unitsOfCertainty exactUnits half wholeOf inUnits printedTail printedRow tailShift keptDefaults leastShown belowShown keptLeastShown raisedToShown lossAnswer
+    -- Chances of 17/64, 26,562.5 units, and of 46,875: claims half a unit off, above and below; one and a half off; one off, above and below. With three rows wrong the first is named.
+    × (verdictFor 2 5000 625 (26562 ∷ 46875 ∷ 26563 ∷ []) ≡ Passed)
+    × (verdictFor 2 5000 625 (26563 ∷ 46875 ∷ 26562 ∷ []) ≡ Passed)
+    × (verdictFor 2 5000 625 (26562 ∷ 46875 ∷ 26564 ∷ []) ≡ Fails 2)
+    × (verdictFor 2 5000 625 (26562 ∷ 46876 ∷ 26562 ∷ []) ≡ Fails 1)
+    × (verdictFor 2 5000 625 (26562 ∷ 46874 ∷ 26562 ∷ []) ≡ Fails 1)
+    × (verdictFor 2 5000 625 (26561 ∷ 46876 ∷ 26561 ∷ []) ≡ Fails 0)
+    -- The column that is printed, where it passes and where it fails; the chances of the second rounded to nearest, with one number too many.
+    × (verdictFor 3 1000 3000 (79032 ∷ 14005 ∷ 4895 ∷ 2068 ∷ []) ≡ Passed)
+    × (verdictFor 3 500 500 (86393 ∷ 12284 ∷ 1253 ∷ 70 ∷ []) ≡ Fails 2)
+    × (verdictFor 3 500 500 (86393 ∷ 12284 ∷ 1254 ∷ 70 ∷ 4294967295 ∷ []) ≡ Passed)
+    -- A refusal has its number.
+    × (verdictAfter 3 (λ side. keptDefaults side 3 500 500) [] 8 ≡ Refused 8)
+    × (refusalIn (Refused 8) ≡ 8)
+unfolding scaled nought unity increment carry round roundedProduct roundedSum roundedQuotient ofInteger ofBasisPoints size choose raise integer plus times divided whole complement over pascalRow pass passed lossAbove lossUnits constant keptConditional keptJoint keptPower keptWeight keptPassStep keptRow keptTotal upTo exactAssets summedCount keptCount keptChance keptChances keptTail keptTerm keptLoss keptLayer unitsOfCertainty exactUnits half wholeOf toNearest inUnits printedTail printedRow tailShift keptDefaults leastShown belowShown keptLeastShown raisedToShown lossAnswer minus atMost passes firstToFail refusalIn verdictOn verdictAfter
 cases = (
   (refl, refl),
   (refl, refl),
@@ -172,6 +194,17 @@ cases = (
   refl,
   refl,
   (refl, refl),
+  refl,
+  refl,
+  refl,
+  refl,
+  refl,
+  refl,
+  refl,
+  refl,
+  refl,
+  refl,
+  refl,
 )
 
 -- Up to 64 assets a count is worked out exactly and rounded, above 64 it is made by sums. At 63, 64 and 65 the two differ in bits for j from 9 to n − 9.

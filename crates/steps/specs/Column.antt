@@ -4,10 +4,11 @@ use Prim.Native.Nat.{ℕ, zero, suc, _+_, _-_, _≤_}
 use mathlib.Core.Path.{_≡_}
 use lib.Dec.{lit<}
 use Rattle.model.specs.Number.{sum}
-use Rattle.model.specs.Fraction.{Fraction, AtMost, Less, integer, plus, times}
+use Rattle.model.specs.Fraction.{Fraction, AtMost, Less, integer, plus, minus, times}
 use Rattle.model.specs.Chances.{Chances, chance, tail}
 use Rattle.kept.specs.declared.Kept.{Kept}
-use Rattle.kept.specs.declared.Side.the-variants.{Low}
+use Rattle.kept.specs.declared.Side.{Side}
+use Rattle.kept.specs.declared.Side.the-variants.{Low, High}
 use Rattle.kept.specs.Rounding.{value}
 use Rattle.kept.specs.Whole.{wholeOf}
 use Rattle.steps.specs.Chances.{keptTail}
@@ -25,9 +26,14 @@ exactUnits x = times (integer unitsOfCertainty) x
 unfoldable pub half : Fraction
 half = record { num = 1; den = 2; positive = lit< tt }
 
--- x in whole units, to nearest: its units and one half, rounded down, so that what is exactly half way goes up.
+-- x to nearest. What is exactly half way goes down on the low side, by x less one half rounded up, and up on the high side, by x and one half rounded down.
+unfoldable pub toNearest : Side → Fraction → ℕ
+toNearest Low x = wholeOf High (minus x half)
+toNearest High x = wholeOf Low (plus x half)
+
+-- x in whole units, to nearest, with what is half way up.
 unfoldable pub inUnits : Kept → ℕ
-inUnits x = wholeOf Low (plus (exactUnits (value x)) half)
+inUnits x = toNearest High (exactUnits (value x))
 
 module _ (n : ℕ) (c : ℕ → Kept) where
   -- The printed tail at k: the low tail in whole units, to nearest. That at 0 is certainty.
@@ -53,6 +59,11 @@ pub record PrintsTails (above below : Fraction) (r : Chances) (t : ℕ → ℕ) 
 pub record Within (off x y : Fraction) : Type 0 where
   pub not-above : Less x (plus y off)
   pub not-below : Less y (plus x off)
+
+-- x and y are at most `off` apart.
+pub record AtMostApart (off x y : Fraction) : Type 0 where
+  pub not-above : AtMost x (plus y off)
+  pub not-below : AtMost y (plus x off)
 
 -- Rows of a column printed from tails t: no row is below zero, each being what its tail has more than the next; row n is its own tail; rows 0 to n add to
 -- exactly 100,000; each is less than `off` units from the exact chance.

@@ -7,6 +7,7 @@ pub mod Shifts
 pub mod Loss
 pub mod Tranches
 pub mod Layers
+pub mod Claims
 pub mod Enclosure
 pub mod Exponents
 pub mod Numbers

@@ -6,19 +6,23 @@ use mathlib.Core.List.{List}
 use lib.ListN.{length, getD}
 use lib.IntN.{ℤ, pos, natAbs}
 use Rattle.model.specs.Number.{sum, integerSum}
-use Rattle.model.specs.Fraction.{Fraction, Less, integer, plus, times, whole}
+use Rattle.model.specs.Fraction.{Fraction, Less, integer, plus, minus, times, whole}
 use Rattle.model.specs.Chances.{Chances, chance, tail, expectedLoss, layerLoss}
 use Rattle.kept.specs.declared.Kept.{Kept}
 use Rattle.kept.specs.declared.Side.{Side}
 use Rattle.kept.specs.declared.Side.the-variants.{Low, High}
+use Rattle.kept.specs.Rounding.{value}
 use Rattle.steps.specs.Chances.{keptTail, keptLoss, keptLayer}
-use Rattle.steps.specs.Column.{unitsOfCertainty, printedTail, exactUnits, Within}
+use Rattle.steps.specs.Column.{unitsOfCertainty, printedTail, exactUnits, half, toNearest, Within, AtMostApart}
 use Rattle.steps.specs.Shifts.{tailShift}
 use Rattle.steps.specs.Enclosure.{Enclosed}
 use Rattle.steps.specs.Exponents.{Ranged}
 use Rattle.steps.specs.declared.Tranche.{Tranche}
 use Rattle.steps.specs.Loss.{LossAnswer, untouched, lossAnswer, Says}
 use Rattle.steps.specs.Tranches.{trancheAt}
+use Rattle.steps.specs.declared.Verdict.{Verdict}
+use Rattle.steps.specs.declared.Verdict.the-variants.{Passed}
+use Rattle.steps.specs.Claims.{RowPasses}
 pub mod Laws
 
 -- The bounds of chances, tails and the losses of tranches and layers enclose the exact values and are at most one part in g apart.
@@ -56,6 +60,16 @@ pub record HoldsShifts (off : Fraction) (r s : Chances) (low base : ℕ → Kept
   pub near : (k : ℕ) → k ≤ r .assets
       → Within off (plus (integer (printedTail (r .assets) low k)) (exactUnits (tail s k))) (plus (integer (printedTail (r .assets) base k)) (exactUnits (tail r k)))
   pub total : Less (integer (natAbs (integerSum (r .assets) (λ i. getD shifts (suc i) (pos 0))))) (times (integer (r .assets)) off)
+
+-- What holds of the answer to a claimed column. A row that is at most half a unit from 100,000 times the exact chance passes, and so does a column of such rows: that of
+-- exact chances each rounded to nearest, with what is half way up or down as each row likes. A row that passes is no further from that than half a unit and
+-- 100,000 × (high − low).
+pub record HoldsVerdict (r : Chances) (c : Side → ℕ → Kept) (claims : List ℕ) (verdict : Verdict) : Type 0 where
+  pub near-row : (k : ℕ) → k ≤ r .assets → AtMostApart half (integer (getD claims k 0)) (exactUnits (chance r k)) → RowPasses c claims k
+  pub near-column : ((k : ℕ) → k ≤ r .assets → AtMostApart half (integer (getD claims k 0)) (exactUnits (chance r k))) → verdict ≡ Passed
+  pub rounded-column : (side : ℕ → Side) → ((k : ℕ) → k ≤ r .assets → getD claims k 0 ≡ toNearest (side k) (exactUnits (chance r k))) → verdict ≡ Passed
+  pub passed-row : (k : ℕ) → k ≤ r .assets → RowPasses c claims k
+      → AtMostApart (plus half (exactUnits (minus (value (c High k)) (value (c Low k))))) (integer (getD claims k 0)) (exactUnits (chance r k))
 
 -- What holds of a loss that is answered, from its bounds on the two sides and its exact value v: it is the one that the bounds give, which enclose v and are at most
 -- one part in g apart; and what its case says of them.

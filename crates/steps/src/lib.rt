@@ -7,6 +7,13 @@ pub struct Tranche {
     pub upper: u32,
 }
 
+// What a check of a claimed column answers: the number of a refusal; that every row passes; or the first row that fails.
+pub enum Verdict {
+    Refused(u32),
+    Passed,
+    Fails(u32),
+}
+
 // The places for tranches in a loss call, and for losses in its answer.
 pub const TRANCHES: usize = 8;
 

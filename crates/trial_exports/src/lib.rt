@@ -1,5 +1,6 @@
 // The calls under C names, for the programs of tools/random_calls. Numbers pass as themselves, a slice as a pointer and a length, an
 // array, and a number that is written, by a pointer.
+use column_check::Verdict;
 use pool::Answer;
 use pool::Loss;
 use pool::Pool;
@@ -303,6 +304,47 @@ pub extern "C" fn trial_layer_loss(
     *first = numbers.first;
     *second = numbers.second;
     answer.refusal
+}
+
+// Writes the number of the refusal or of the row, or 0, and gives a kind: 0 refused, 1 passed, 2 fails.
+fn write_verdict(verdict: Verdict, number: &mut u32) -> u32 {
+    match verdict {
+        Verdict::Refused(refusal) => {
+            *number = refusal;
+            0
+        }
+        Verdict::Passed => {
+            *number = 0;
+            1
+        }
+        Verdict::Fails(k) => {
+            *number = k;
+            2
+        }
+    }
+}
+
+#[no_mangle]
+pub extern "C" fn trial_check_column(
+    assets: u32,
+    probability: u32,
+    correlation: u32,
+    claims: &[u32],
+    low_significands: &mut [u32],
+    high_significands: &mut [u32],
+    low_exponents: &mut [i32],
+    high_exponents: &mut [i32],
+    number: &mut u32,
+) -> u32 {
+    let verdict = column_check::check_column(
+        pool_of(assets, probability, correlation),
+        claims,
+        low_significands,
+        high_significands,
+        low_exponents,
+        high_exponents,
+    );
+    write_verdict(verdict, number)
 }
 
 // The reply of the program `column` to an input, and its length.

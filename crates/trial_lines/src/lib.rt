@@ -1,6 +1,7 @@
 // What a line of output says of a call: what it was given, the refusal or the answer, and a checksum of each array.
 pub mod tranches;
 
+use column_check::Verdict;
 use pool::Pool;
 use pool::Tranche;
 use tranches::Tranches;
@@ -33,7 +34,7 @@ pub enum Library {
 }
 
 // A call, with what it takes beside the pool and the store: the number of a row, how many places of a column or of a shift list
-// are lent, one tranche, several tranches, the first and the last default of a layer.
+// are lent, one tranche, several tranches, the first and the last default of a layer. The claims of a check are passed beside it.
 pub enum Call {
     Fill,
     Row(u32),
@@ -42,6 +43,7 @@ pub enum Call {
     Loss(Library, Tranche),
     Losses(Library, Tranches),
     Layer(u32, u32),
+    Check,
 }
 
 pub fn pool_of(assets: u32, probability: u32, correlation: u32) -> Pool {
@@ -107,6 +109,10 @@ fn write_call(call: Call, pool: Pool) {
             write_pool(pool);
             write_field(i);
             write_field(j);
+        }
+        Call::Check => {
+            write(b"check");
+            write_pool(pool);
         }
     }
 }
@@ -278,4 +284,19 @@ pub fn write_shifts(pool: Pool, refusal: u32, shifts: &[i32], lent: usize) {
     }
     write(b" list");
     write_integers(shifts, lent, ROWS);
+}
+
+// The verdict, how many claims were lent, and the checksum of what they are now.
+pub fn write_verdict(verdict: Verdict, claims: &[u32]) {
+    match verdict {
+        Verdict::Refused(refusal) => write_refusal(refusal),
+        Verdict::Passed => write(b" passed"),
+        Verdict::Fails(k) => {
+            write(b" fails");
+            write_field(k);
+        }
+    }
+    write(b" claims");
+    write_length(claims.len());
+    write_checksum(claims, &[]);
 }

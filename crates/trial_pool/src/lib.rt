@@ -24,6 +24,7 @@ use trial_lines::write_refusal;
 use trial_lines::write_row;
 use trial_lines::write_shifts;
 use trial_lines::write_store;
+use trial_lines::write_verdict;
 use trial_support::write;
 use trial_support::write_field;
 
@@ -182,6 +183,25 @@ fn answer_shifts(
     write_shifts(pool, refusal, &shifts, length);
 }
 
+fn answer_check(
+    pool: Pool,
+    claims: &[u32],
+    low_significands: &mut [u32],
+    high_significands: &mut [u32],
+    low_exponents: &mut [i32],
+    high_exponents: &mut [i32],
+) {
+    let verdict = column_check::check_column(
+        pool,
+        claims,
+        low_significands,
+        high_significands,
+        low_exponents,
+        high_exponents,
+    );
+    write_verdict(verdict, claims);
+}
+
 // Makes a call that each library has, and writes what it answers.
 fn answer_library(
     call: Call,
@@ -227,6 +247,7 @@ fn answer_library(
 fn answer(
     call: Call,
     pool: Pool,
+    claims: &[u32],
     low_significands: &mut [u32],
     high_significands: &mut [u32],
     low_exponents: &mut [i32],
@@ -258,6 +279,14 @@ fn answer(
             low_exponents,
             high_exponents,
         )),
+        Call::Check => answer_check(
+            pool,
+            claims,
+            low_significands,
+            high_significands,
+            low_exponents,
+            high_exponents,
+        ),
         _ => answer_library(
             call,
             pool,
@@ -270,7 +299,7 @@ fn answer(
 }
 
 // Runs a call on arrays that hold another pool's store. A pool of no assets is refused, and leaves the marks.
-fn run_on(other: Pool, call: Call, pool: Pool, lengths: Lengths) {
+fn run_on(other: Pool, call: Call, pool: Pool, claims: &[u32], lengths: Lengths) {
     let mut low_significands = [MARK; LARGE_PLACES];
     let mut high_significands = [MARK; LARGE_PLACES];
     let mut low_exponents = [INTEGER_MARK; LARGE_PLACES];
@@ -286,6 +315,7 @@ fn run_on(other: Pool, call: Call, pool: Pool, lengths: Lengths) {
     answer(
         call,
         pool,
+        claims,
         first_naturals(&mut low_significands, lengths.0),
         first_naturals(&mut high_significands, lengths.1),
         first_integers(&mut low_exponents, lengths.2),
@@ -303,7 +333,12 @@ fn run_on(other: Pool, call: Call, pool: Pool, lengths: Lengths) {
 
 // On the first places of marked arrays.
 pub fn run(call: Call, pool: Pool, lengths: Lengths) {
-    run_on(pool_of(0, 0, 0), call, pool, lengths);
+    run_on(pool_of(0, 0, 0), call, pool, &[], lengths);
+}
+
+// A check of claims, on the first places of arrays that hold another pool's store.
+pub fn run_check(other: Pool, pool: Pool, claims: &[u32], lengths: Lengths) {
+    run_on(other, Call::Check, pool, claims, lengths);
 }
 
 pub fn beyond(call: Call) -> u32 {
@@ -337,9 +372,9 @@ pub fn run_ample(call: Call, pool: Pool) {
 // On enough places of arrays that hold another pool's store.
 pub fn run_over(other: Pool, call: Call, pool: Pool) {
     if other.assets > 64 {
-        run_on(other, call, pool, whole());
+        run_on(other, call, pool, &[], whole());
     } else {
-        run_on(other, call, pool, ample(call, pool));
+        run_on(other, call, pool, &[], ample(call, pool));
     }
 }
 

@@ -18,7 +18,8 @@ use Rattle.working.specs.Working.{workingPlaces, Entries}
 use Rattle.grounds.specs.Grounds.{firstGround, TranchesAccepted}
 use Rattle.grounds.specs.Grounds.Laws.{beta-loss-grounds-within}
 use Rattle.chances.specs.Tails.{ColumnReady}
-use Rattle.expected_losses.specs.Loss.{OnSides, TranchesReady}
+use Rattle.chances.specs.Chances.{OnSides}
+use Rattle.expected_losses.specs.Loss.{TranchesReady}
 use Rattle.chances.specs.Chances.Ready.{column-ready}
 use Rattle.expected_losses.specs.Loss.Ready.{tranches-ready}
 use Rattle.store.specs.declared.Pool.{Pool}

@@ -1,6 +1,6 @@
--- A row of entries within their budgets, whatever model they come from, is ready for steps 4 to 6, and for printing its column.
+-- When two bounds can be answered from; and a row of entries within their budgets, whatever model they come from, is ready for steps 4 to 6, and for printing its column.
 -- Assumes nothing.
-use Prim.Native.Nat.{ℕ, suc, _≤_}
+use Prim.Native.Nat.{ℕ, suc, _≤_, _<_}
 use mathlib.Core.List.{List}
 use native.Mathlib.Omega.{arith}
 use Rattle.model.specs.Fraction.{Fraction, AtMost, certainty, integer}
@@ -10,18 +10,30 @@ use Rattle.model.specs.Chances.Laws.{tail-at-most-one}
 use Rattle.kept.specs.declared.Kept.{Kept}
 use Rattle.kept.specs.declared.Side.{Side}
 use Rattle.kept.specs.declared.Side.the-variants.{Low}
+use Rattle.kept.specs.Rounding.{IsKept}
 use Rattle.steps.specs.Inputs.{workingAssets}
 use Rattle.steps.specs.Budgets.{WithinBudget, WithinPlaces}
 use Rattle.steps.specs.Chances.Laws.{tail-bound}
 use Rattle.steps.specs.Column.Laws.{printed-falls}
+use Rattle.steps.specs.Enclosure.{Enclosed}
+use Rattle.steps.specs.Loss.Laws.{high-to-two}
 use Rattle.steps.specs.Promises.Laws.{chances-bounded, entries-ranged, steps-ranged}
 use Rattle.working.specs.Working.{workingPlaces, Entries}
-use Rattle.chances.specs.Chances.{StepsReady}
+use Rattle.chances.specs.Chances.{StepsReady, Answerable}
 use Rattle.chances.specs.Tails.{ColumnReady}
 
 certainty-at-most-two : AtMost certainty (integer 2)
 unfolding certainty integer
 certainty-at-most-two = omega arith
+
+-- Bounds that enclose an exact value of at most one.
+pub enclosed-answerable : {g : ℕ} {low high : Kept} {v : Fraction} → 0 < g → IsKept low → IsKept high → Enclosed g low high v → AtMost v certainty → Answerable low high
+enclosed-answerable positive low-kept high-kept enclosed most = record {
+  low-kept = low-kept;
+  high-kept = high-kept;
+  order = at-most-trans (enclosed .from-below) (enclosed .from-above);
+  most = high-to-two positive enclosed most;
+}
 
 module _
     {b m : ℕ} {r : Chances} {v : ℕ → Fraction} {entry : Side → ℕ → Kept} (within : WithinBudget b r v entry) (placed : WithinPlaces m r v)

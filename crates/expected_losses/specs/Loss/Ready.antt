@@ -1,36 +1,24 @@
--- When two bounds give an answer; and a row of entries within their budgets, whatever model they come from, is ready for tranche losses.
+-- A row of entries within their budgets, whatever model they come from, is ready for tranche losses.
 -- Assumes nothing.
 use Prim.Native.Nat.{ℕ, _≤_, _<_}
 use mathlib.Core.List.{List}
 use lib.ListN.{take}
-use Rattle.model.specs.Fraction.{Fraction, AtMost, certainty}
-use Rattle.model.specs.Fraction.Laws.{at-most-trans}
+use Rattle.model.specs.Fraction.{Fraction}
 use Rattle.model.specs.Chances.{Chances}
 use Rattle.model.specs.Chances.Laws.{loss-at-most-one}
 use Rattle.kept.specs.declared.Kept.{Kept}
 use Rattle.kept.specs.declared.Side.{Side}
 use Rattle.kept.specs.declared.Side.the-variants.{Low, High}
-use Rattle.kept.specs.Rounding.{IsKept}
 use Rattle.kept.specs.Accuracy.{BudgetFor}
 use Rattle.steps.specs.Inputs.{workingAssets}
 use Rattle.steps.specs.declared.Tranche.{Tranche}
 use Rattle.steps.specs.Tranches.{tranchePlaces, TranchesInRange}
 use Rattle.steps.specs.Budgets.{chanceBudget, layerBudget, WithinBudget, WithinPlaces}
 use Rattle.steps.specs.Chances.Laws.{loss-kept}
-use Rattle.steps.specs.Enclosure.{Enclosed}
-use Rattle.steps.specs.Loss.Laws.{high-to-two}
 use Rattle.steps.specs.Promises.Laws.{row-enclosed}
-use Rattle.chances.specs.Chances.Ready.{steps-ready}
-use Rattle.expected_losses.specs.Loss.{Answerable, OnSides, TranchesReady}
-
--- Bounds that enclose an exact value of at most one.
-pub enclosed-answerable : {g : ℕ} {low high : Kept} {v : Fraction} → 0 < g → IsKept low → IsKept high → Enclosed g low high v → AtMost v certainty → Answerable low high
-enclosed-answerable positive low-kept high-kept enclosed most = record {
-  low-kept = low-kept;
-  high-kept = high-kept;
-  order = at-most-trans (enclosed .from-below) (enclosed .from-above);
-  most = high-to-two positive enclosed most;
-}
+use Rattle.chances.specs.Chances.{OnSides}
+use Rattle.chances.specs.Chances.Ready.{steps-ready, enclosed-answerable}
+use Rattle.expected_losses.specs.Loss.{TranchesReady}
 
 module _
     {b m : ℕ} {r : Chances} {v : ℕ → Fraction} {entry : Side → ℕ → Kept} (within : WithinBudget b r v entry) (placed : WithinPlaces m r v)

@@ -13,9 +13,8 @@ use Rattle.steps.specs.Inputs.{workingAssets, LayerInRange}
 use Rattle.steps.specs.Budgets.{chanceBudget, layerBudget, WithinBudget, WithinPlaces}
 use Rattle.steps.specs.Chances.Laws.{layer-kept}
 use Rattle.steps.specs.Promises.Laws.{row-enclosed}
-use Rattle.chances.specs.Chances.Ready.{steps-ready}
-use Rattle.expected_losses.specs.Loss.{OnSides}
-use Rattle.expected_losses.specs.Loss.Ready.{enclosed-answerable}
+use Rattle.chances.specs.Chances.{OnSides}
+use Rattle.chances.specs.Chances.Ready.{steps-ready, enclosed-answerable}
 use Rattle.layer_losses.specs.Layer.{LayerReady}
 
 pub layer-ready : {b m g : ℕ} {r : Chances} {v : ℕ → Fraction} {entry : Side → ℕ → Kept} → WithinBudget b r v entry → WithinPlaces m r v → r .assets ≤ workingAssets

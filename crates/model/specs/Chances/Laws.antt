@@ -61,6 +61,10 @@ module _ (r : Chances) where
     pub chance-at-most : {j : ℕ} → j ≤ r .assets → r .numerator j ≤ r .denominator
     chance-at-most {j} l = omega (arith, tail-next l, tail-at-most j)
 
+    pub chance-at-most-one : {j : ℕ} → j ≤ r .assets → AtMost (chance r j) certainty
+    unfolding chance share certainty
+    chance-at-most-one l = omega (arith, chance-at-most l)
+
 -- ---- the same chances over another denominator
 
 module _ {r s : Chances} (same : SameChances r s) where

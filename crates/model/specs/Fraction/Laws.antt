@@ -1,14 +1,17 @@
 -- Laws of fractions and basis points.
 -- Assumes nothing.
-use Prim.Native.Nat.{ℕ, zero, suc, _+_, _*_, _^_, _≤_, _<_}
-use mathlib.Core.Path.{_≡_, ap}
+use Prim.Native.Nat.{ℕ, zero, suc, _+_, _-_, _*_, _^_, _≤_, _<_}
+use mathlib.Core.Path.{_≡_, sym, ap, _∙_}
+use mathlib.Core.Bool.{true}
 use native.Mathlib.Nat.{add-sub-of-le, sub-le, one-mul, pow-zero, pow-suc, pow-succ', mul-pos, mul-le-mul, mul-le-mul-right, mul-lt-mul-of-pos-right, lt-of-not-le}
 use native.Mathlib.Nat.{eq-of-mul-eq-mul-right, le-of-mul-le-mul-right}
+use native.Mathlib.Decide.{decLe}
 use native.Mathlib.Omega.{arith}
 use native.Mathlib.Bridge.{le-prop}
-use lib.Dec.{lit≤}
+use borrow.Author.Tests.{leb-true, le-leb, lt-leb}
+use lib.Dec.{leb, lit≤}
 use lib.Pow.{pow-add}
-use Rattle.model.specs.Fraction.{Fraction, Same, AtMost, Less, plus, times, divided, whole, complement, over}
+use Rattle.model.specs.Fraction.{Fraction, Same, AtMost, atMost, Less, plus, minus, times, divided, whole, complement, over}
 
 -- ---- equality and order
 
@@ -63,7 +66,25 @@ less-at-most-trans l m = less-of-not (λ back. not-both (at-most-trans m back) l
 pub at-most-less-trans : {x y z : Fraction} → AtMost x y → Less y z → Less x z
 at-most-less-trans l m = less-of-not (λ back. not-both (at-most-trans back l) m)
 
--- ---- sums, products, quotients
+-- ---- the order as a test
+
+pub at-most-true : {x y : Fraction} → atMost x y ≡ true → AtMost x y
+unfolding atMost
+at-most-true {x} {y} test = record { cross = leb-true (x .num * y .den) (y .num * x .den) test }
+
+pub true-at-most : {x y : Fraction} → AtMost x y → atMost x y ≡ true
+unfolding atMost
+true-at-most {x} {y} l = le-leb (x .num * y .den) (y .num * x .den) (l .cross)
+
+-- It is the test of two whole numbers that have the same order.
+pub at-most-by : (a b : ℕ) {x y : Fraction} → (a ≤ b → AtMost x y) → (AtMost x y → a ≤ b) → leb a b ≡ atMost x y
+unfolding atMost
+at-most-by a b {x} {y} to back = elim (decLe a b) [
+  | yes l ↦ le-leb a b l ∙ sym (le-leb (x .num * y .den) (y .num * x .den) (to l .cross))
+  | no l ↦ lt-leb a b (lt-of-not-le l) ∙ sym (lt-leb (x .num * y .den) (y .num * x .den) (lt-of-not-le (λ m. l (back (record { cross = m })))))
+]
+
+-- ---- sums, differences, products, quotients
 
 pub plus-mono : {x y v w : Fraction} → AtMost x y → AtMost v w → AtMost (plus x v) (plus y w)
 unfolding plus
@@ -85,6 +106,33 @@ unfolding plus
 plus-cancel {x} {v} {w} y c same l =
     let moved : Same (plus (plus y v) c) (plus (plus y c) v) = omega arith in
     less-of-not (λ back. not-both (at-most-trans (at-most-of-same moved) (plus-mono back (at-most-of-same same))) l)
+
+-- x is not above y and what x has more than y.
+pub minus-covers : (x y : Fraction) → AtMost x (plus y (minus x y))
+unfolding plus minus
+minus-covers x y =
+    let within : x .num * y .den ≤ y .num * x .den + (x .num * y .den - y .num * x .den) = omega arith in
+    omega (arith, mul-le-mul-right (x .den * y .den) within)
+
+-- x + y ≤ z gives x ≤ z − y, and x ≤ z + y gives x − y ≤ z.
+pub minus-from : {x z : Fraction} (y : Fraction) → AtMost (plus x y) z → AtMost x (minus z y)
+unfolding plus minus
+minus-from {x} {z} y l =
+    let within : z .num * y .den ≤ z .num * y .den - y .num * z .den + y .num * z .den = omega arith in
+    record { cross = omega (arith, l .cross, mul-le-mul-right (x .den) within) }
+
+pub minus-to : {x z : Fraction} (y : Fraction) → AtMost x (plus z y) → AtMost (minus x y) z
+unfolding plus minus
+minus-to {x} {z} y l =
+    let more : ℕ = x .num * y .den - y .num * x .den in
+    elim (decLe (y .num * x .den) (x .num * y .den)) [
+      | yes m ↦
+          let is : more + y .num * x .den ≡ x .num * y .den = omega arith in
+          record { cross = omega (arith, l .cross, ap (λ n. n * z .den) is) }
+      | no m ↦
+          let none : more ≡ 0 = omega arith in
+          record { cross = rw none (omega arith) }
+    ]
 
 pub times-mono : {x y v w : Fraction} → AtMost x y → AtMost v w → AtMost (times x v) (times y w)
 unfolding times

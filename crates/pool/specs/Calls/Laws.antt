@@ -31,7 +31,8 @@ use Rattle.working.specs.Working.{workingPlaces, Entries}
 use Rattle.working.specs.Slices.{entriesAfter}
 use Rattle.working.specs.Slices.Laws.{entries-at, entries-untouched}
 use Rattle.chances.specs.Tails.{ColumnReady}
-use Rattle.expected_losses.specs.Loss.{OnSides, TranchesReady}
+use Rattle.chances.specs.Chances.{OnSides}
+use Rattle.expected_losses.specs.Loss.{TranchesReady}
 use Rattle.chances.specs.Chances.Ready.{column-ready}
 use Rattle.expected_losses.specs.Loss.Ready.{tranches-ready}
 use Rattle.layer_losses.specs.Layer.{LayerReady}

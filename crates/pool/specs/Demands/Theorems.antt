@@ -105,7 +105,7 @@ length-filled side n p ρ field old room = overwritten-length (stored side p ρ 
 
 module _ {number : ℕ} {parts : ℕ → ℕ} {pool : Pool} {before after : Store} {refusal : ℕ} (fills : Fills number parts pool before after refusal) where
   -- A refused call leaves the store as it was.
-  store-kept : (refusal ≡ 0 → ⊥) → after ≡ before
+  pub store-kept : (refusal ≡ 0 → ⊥) → after ≡ before
   store-kept some = fills .store-is ∙ sym (store-untouched _ _ _ refusal before some)
 
   module _ (none : refusal ≡ 0) where
@@ -145,7 +145,7 @@ module _ {number : ℕ} {parts : ℕ → ℕ} {pool : Pool} {before after : Stor
         rw is (simp later-filled refl)
 
   -- An accepted call has room for the store.
-  store-meets : (refusal ≡ 0 → EachAtLeast (triangle (suc (pool .assets))) (lengths before)) → StoreDemands pool parts (slices before) (slices after) refusal
+  pub store-meets : (refusal ≡ 0 → EachAtLeast (triangle (suc (pool .assets))) (lengths before)) → StoreDemands pool parts (slices before) (slices after) refusal
   store-meets room = record { lengths = λ none. lengths-meet none (room none); table = table-meets; later = later-meets }
 
   -- With a slice beside the store, whatever grounds the call checks and whatever entries it writes.

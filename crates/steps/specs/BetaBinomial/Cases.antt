@@ -6,7 +6,7 @@ use mathlib.Core.Path.{_≡_, refl}
 use lib.Dec.{lit<}
 use lib.Ieee.{size}
 use Rattle.model.specs.Number.{choose, raise}
-use Rattle.model.specs.Fraction.{integer, plus, times, divided, whole, complement}
+use Rattle.model.specs.Fraction.{integer, plus, minus, times, divided, whole, complement}
 use Rattle.model.specs.Chances.{lossAbove, lossUnits}
 use Rattle.model.specs.BetaBinomial.{quotientNumerator, quotientDenominator}
 use Rattle.kept.specs.declared.Kept.{Kept}
@@ -17,7 +17,7 @@ use Rattle.kept.specs.Whole.{wholeOf}
 use Rattle.steps.specs.Inputs.{upTo}
 use Rattle.steps.specs.Counts.{exactAssets, keptCount}
 use Rattle.steps.specs.Chances.{keptTotal, keptChance, keptChances, keptTail, keptTerm, keptLoss}
-use Rattle.steps.specs.Column.{unitsOfCertainty, exactUnits, half, inUnits, printedTail, printedRow}
+use Rattle.steps.specs.Column.{unitsOfCertainty, exactUnits, half, toNearest, inUnits, printedTail, printedRow}
 use Rattle.steps.specs.Cases.{Digits}
 use Rattle.steps.specs.BetaBinomial.{keptProduct, keptQuotient, keptEntry, keptBetaDefaults}
 
@@ -44,5 +44,5 @@ pub cases :
     × (betaRow 1 ≡ 13521)
     × (betaRow 2 ≡ 5379)
     × (betaRow 3 ≡ 1907)
-unfolding scaled nought unity increment carry round roundedProduct roundedSum roundedQuotient ofInteger ofRatio size choose raise integer plus times divided whole complement lossAbove lossUnits quotientNumerator quotientDenominator keptProduct keptQuotient keptEntry keptBetaDefaults keptTotal upTo exactAssets keptCount keptChance keptChances keptTail keptTerm keptLoss unitsOfCertainty exactUnits half wholeOf inUnits printedTail printedRow
+unfolding scaled nought unity increment carry round roundedProduct roundedSum roundedQuotient ofInteger ofRatio size choose raise integer plus minus times divided whole complement lossAbove lossUnits quotientNumerator quotientDenominator keptProduct keptQuotient keptEntry keptBetaDefaults keptTotal upTo exactAssets keptCount keptChance keptChances keptTail keptTerm keptLoss unitsOfCertainty exactUnits half wholeOf toNearest inUnits printedTail printedRow
 cases = ((refl, refl), (refl, refl), (refl, refl), (refl, refl), (refl, refl), (refl, refl), (refl, refl), refl, refl, refl, refl)

@@ -13,7 +13,7 @@ use Rattle.model.specs.Chances.{Chances, Complete, share, chance, tail}
 use Rattle.model.specs.Chances.Laws.{tail-next, tail-at-zero, tail-at-most-one}
 use Rattle.kept.specs.declared.Kept.{Kept}
 use Rattle.kept.specs.declared.Side.{Side}
-use Rattle.kept.specs.declared.Side.the-variants.{Low}
+use Rattle.kept.specs.declared.Side.the-variants.{Low, High}
 use Rattle.kept.specs.Rounding.{IsKept, scaled, value, nought}
 use Rattle.kept.specs.Rounding.Laws.{nought-kept, sum-is}
 use Rattle.kept.specs.Whole.{wholeOf}
@@ -23,7 +23,7 @@ use Rattle.kept.specs.Accuracy.Laws.{precision-positive}
 use Rattle.steps.specs.Budgets.{Bounded, tailBudget}
 use Rattle.steps.specs.Chances.{keptTotal, keptTail}
 use Rattle.steps.specs.Chances.Laws.{tail-bound}
-use Rattle.steps.specs.Column.{unitsOfCertainty, exactUnits, half, inUnits, printedTail, printedRow, PrintsTails, Within, PrintsColumn}
+use Rattle.steps.specs.Column.{unitsOfCertainty, exactUnits, half, toNearest, inUnits, printedTail, printedRow, PrintsTails, Within, PrintsColumn}
 
 -- Printed tails that do not grow are never above 100,000.
 pub printed-at-most : (n : ℕ) (c : ℕ → Kept) → ((k : ℕ) → printedTail n c (suc k) ≤ printedTail n c k) → (k : ℕ) → printedTail n c k ≤ unitsOfCertainty
@@ -82,7 +82,7 @@ column-weaken l c = record {
 
 -- ---- units
 
-units-order : {x y : Fraction} → AtMost x y → AtMost (exactUnits x) (exactUnits y)
+pub units-order : {x y : Fraction} → AtMost x y → AtMost (exactUnits x) (exactUnits y)
 unfolding exactUnits
 units-order l = times-mono at-most-refl l
 
@@ -92,30 +92,34 @@ units-certainty = omega arith
 
 -- x in whole units is not above x in units and one half, and one unit more is above that.
 pub in-units-at-most : (x : Kept) → AtMost (integer (inUnits x)) (plus (exactUnits (value x)) half)
-unfolding inUnits
+unfolding inUnits toNearest
 in-units-at-most x = whole-is Low (plus (exactUnits (value x)) half) .on-side
 
 pub in-units-next : (x : Kept) → Less (plus (exactUnits (value x)) half) (integer (suc (inUnits x)))
-unfolding inUnits
+unfolding inUnits toNearest
 in-units-next x = whole-next (plus (exactUnits (value x)) half)
 
--- It is less than half a unit below x.
+-- To nearest with what is half way up is less than one half below.
+pub nearest-more-than : (x : Fraction) → Less x (plus (integer (toNearest High x)) half)
+unfolding toNearest plus integer half
+nearest-more-than x = record { cross = omega (arith, whole-next (plus x half) .cross) }
+
 in-units-more-than : (x : Kept) → Less (exactUnits (value x)) (plus (integer (inUnits x)) half)
-unfolding plus integer half
-in-units-more-than x = record { cross = omega (arith, in-units-next x .cross) }
+unfolding inUnits
+in-units-more-than x = nearest-more-than (exactUnits (value x))
 
 -- Of a greater number it is no smaller.
 in-units-order : (x y : Kept) → AtMost (value x) (value y) → inUnits x ≤ inUnits y
-unfolding inUnits
+unfolding inUnits toNearest
 in-units-order x y le = whole-mono Low (plus-mono (units-order le) at-most-refl)
 
 in-units-nought : inUnits nought ≡ 0
-unfolding inUnits exactUnits unitsOfCertainty plus half times integer nought scaled wholeOf
+unfolding inUnits toNearest exactUnits unitsOfCertainty plus half times integer nought scaled wholeOf
 in-units-nought = refl
 
 -- By half units: so many of them rounded down, and one more, halved.
 pub in-units-halves : (x : Kept) → inUnits x ≡ (wholeOf Low (times (integer (2 * unitsOfCertainty)) (value x)) + 1) / 2
-unfolding inUnits exactUnits plus half times integer wholeOf
+unfolding inUnits toNearest exactUnits plus half times integer wholeOf
 in-units-halves x =
     let d : ℕ = 1 * value x .den in
     let halves : ℕ = 2 * unitsOfCertainty * value x .num in

@@ -10,19 +10,19 @@ use lib.IntN.{ℤ, pos, +ℤ-invr}
 use Rattle.model.specs.Number.{choose}
 use Rattle.model.specs.Number.Laws.{sum-cong}
 use Rattle.model.specs.Fraction.{Fraction, Same, AtMost, integer, plus, times, certainty, whole}
-use Rattle.model.specs.Fraction.Laws.{same-refl, same-sym, same-trans, times-same, at-most-refl, less-at-most-trans, times-mono}
+use Rattle.model.specs.Fraction.Laws.{same-refl, same-sym, same-trans, times-same, at-most-refl, at-most-trans, less-at-most-trans, times-mono}
 use Rattle.model.specs.Chances.{Chances, SameChances, chance, tailsTotal}
 use Rattle.model.specs.Chances.Laws.{complete-same, tranche-wide, loss-at-most-one, layer-at-most-one}
 use Rattle.kept.specs.declared.Kept.{Kept}
 use Rattle.kept.specs.declared.Side.{Side}
 use Rattle.kept.specs.declared.Side.the-variants.{Low, High}
-use Rattle.kept.specs.Rounding.{IsKept}
+use Rattle.kept.specs.Rounding.{IsKept, value}
 use Rattle.kept.specs.Accuracy.{precision, BudgetFor}
 use Rattle.kept.specs.Accuracy.Laws.{bound-same, budget-for-weaken}
 use Rattle.steps.specs.Budgets.{chanceBudget, tailBudget, lossBudget, layerBudget, Bounded, WithinBudget, WithinPlaces}
 use Rattle.steps.specs.Chances.{keptChances}
 use Rattle.steps.specs.Chances.Laws.{chance-bound, chance-enclosed, tail-enclosed, loss-enclosed, layer-enclosed, loss-kept, layer-kept}
-use Rattle.steps.specs.Column.{unitsOfCertainty, half, printedTail, printedRow, tenths, PrintsTails, PrintsColumn}
+use Rattle.steps.specs.Column.{unitsOfCertainty, exactUnits, half, printedTail, printedRow, tenths, PrintsTails, PrintsColumn, AtMostApart}
 use Rattle.steps.specs.Column.Laws.{within-weaken, printed-tails, printed-column, column-weaken}
 use Rattle.steps.specs.Inputs.{finePool, tenthsFor, tailTenths}
 use Rattle.steps.specs.Inputs.Laws.{up-to, tail-tenths-within}
@@ -37,9 +37,12 @@ use Rattle.steps.specs.declared.Tranche.{Tranche}
 use Rattle.steps.specs.Tranches.{trancheAt, TranchesInRange, trancheLosses}
 use Rattle.steps.specs.Tranches.Laws.{tranche-loss-is, losses-at, losses-past}
 use Rattle.steps.specs.Layers.{lossOfLayer}
+use Rattle.steps.specs.declared.Verdict.{Verdict}
+use Rattle.steps.specs.Claims.{RowPasses, verdictOn}
+use Rattle.steps.specs.Claims.Laws.{every-passes, near-passes, passed-near, nearest-near}
 use Rattle.steps.specs.Numbers.{StepNumber, of-chances, of-tails, of-losses, of-layers}
 use Rattle.steps.specs.Numbers.Laws.{chances-ranged, tails-ranged, losses-ranged, layers-ranged}
-use Rattle.steps.specs.Promises.{RowEnclosed, HoldsColumn, HoldsShifts, HoldsLoss, HoldsLosses, HoldsLayer}
+use Rattle.steps.specs.Promises.{RowEnclosed, HoldsColumn, HoldsShifts, HoldsVerdict, HoldsLoss, HoldsLosses, HoldsLayer}
 
 -- A loss that is answered from two bounds which enclose an exact value of at most one.
 pub loss-holds : {g : ℕ} {bound : Side → Kept} {v : Fraction} {loss : LossAnswer} → 0 < g → ((side : Side) → IsKept (bound side)) → Enclosed g (bound Low) (bound High) v
@@ -164,3 +167,20 @@ shifts-hold {r} tails others as-many same some most entries = record {
   near = λ k l. within-weaken most (tails-near tails others k);
   total = less-at-most-trans (tails-total-near tails others as-many same some _ (λ i l. entries (suc i) l)) (times-mono at-most-refl most);
 }
+
+-- The answer to a claimed column, from bounds that enclose the chances; and what it means, where no ground refuses by a number.
+module _ {g : ℕ} {r : Chances} {c : Side → ℕ → Kept} (enclosed : RowEnclosed g r c) where
+  pub chances-ordered : (k : ℕ) → k ≤ r .assets → AtMost (value (c Low k)) (value (c High k))
+  chances-ordered k l = at-most-trans (enclosed .chances l .from-below) (enclosed .chances l .from-above)
+
+  pub verdict-holds : {claims : List ℕ} {verdict : Verdict} → verdict ≡ verdictOn (r .assets) c claims → HoldsVerdict r c claims verdict
+  verdict-holds {claims} is =
+      let near : (k : ℕ) → k ≤ r .assets → AtMostApart half (integer (getD claims k 0)) (exactUnits (chance r k)) → RowPasses c claims k = λ k l.
+      near-passes (enclosed .chances l .from-below) (enclosed .chances l .from-above) in
+      record {
+        near-row = near;
+        near-column = λ every. is ∙ every-passes (r .assets) c claims (λ k l. near k l (every k l));
+        rounded-column = λ side rounded.
+            is ∙ every-passes (r .assets) c claims (λ k l. near k l (rw (rounded k l) (nearest-near (side k) (exactUnits (chance r k)))));
+        passed-row = λ k l passed. passed-near (enclosed .chances l .from-below) (enclosed .chances l .from-above) passed;
+      }
