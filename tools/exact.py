@@ -125,6 +125,17 @@ def hold_loss(n, p, rho, recovery, lower, upper, model=MOODY, parts=library_part
     hold_apart(parts(n), low, high, *exact_loss(n, p, rho, recovery, lower, upper, model))
 
 
+def pool_loss(p, recovery):
+    """The expected loss of a pool, in basis points."""
+    return Fraction(p * (WHOLE - recovery), WHOLE)
+
+
+def hold_touching(n, p, rho, tranches, model=MOODY):
+    """The expected losses of tranches that touch from 0 to 10,000 with one recovery add to that of the pool."""
+    losses = [(upper - lower) * Fraction(*exact_loss(n, p, rho, *rest, lower, upper, model)) for *rest, lower, upper in tranches]
+    assert sum(losses) == pool_loss(p, tranches[0][0])
+
+
 def exact_layer(n, p, rho, i, j):
     """The mean of the tails at i to j, as a numerator and a denominator."""
     exact, whole = exact_tails(n, p, rho)

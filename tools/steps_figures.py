@@ -1,15 +1,19 @@
 """Works the six steps, and those of the beta-binomial, out in exact whole numbers and prints the figures of small pools. It
-stops at the first that neither Cases.antt nor BetaBinomial/Cases.antt in crates/steps/specs has.
+stops at the first that none of Cases.antt, Tranches/Cases.antt and BetaBinomial/Cases.antt in crates/steps/specs has.
 
     python3 tools/steps_figures.py
 """
+from itertools import pairwise
 from pathlib import Path
 
+from kept import value
 from pools import beta_steps, chance_units, first_to_fail, layer, loss, printed_rows, printed_tails, shifts, steps, summed_counts
 from pools import tails
 
 SPECS = Path(__file__).parent.parent / "crates/steps/specs"
-CASES = (SPECS / "Cases.antt").read_text() + (SPECS / "BetaBinomial/Cases.antt").read_text()
+CASES = "".join((SPECS / file).read_text() for file in ("Cases.antt", "Tranches/Cases.antt", "BetaBinomial/Cases.antt"))
+# Where three touching tranches start and end.
+CUT = [0, 1000, 3000, 10000]
 # Pools, and claimed columns of each.
 VERDICTS = [
     ((2, 5000, 625), [26562, 46875, 26563]), ((2, 5000, 625), [26563, 46875, 26562]), ((2, 5000, 625), [26562, 46875, 26564]),
@@ -48,6 +52,9 @@ def main():
     digits("layerOf 3 500 500 1 3", lambda side: layer(side, steps(side, 3, 500, 500)[1], 1, 3))
     for j in range(5):
         digits(f"λ side. summedCount side 4 {j}", lambda side: summed_counts(side, 4)[j])
+    for side, name in enumerate(["Low", "High"]):
+        total = sum((upper - lower) * value(loss(side, made[side][1], 4000, lower, upper)) for lower, upper in pairwise(CUT))
+        line(f"threeTotal {name} answered {total.numerator} {total.denominator.bit_length() - 2}")
     rows, printed = printed_rows(made[0][1]), printed_tails(made[0][1])
     for k in range(4):
         line(f"(rowOf 3 1000 3000 {k} ≡ {rows[k]})")

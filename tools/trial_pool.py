@@ -18,6 +18,7 @@ ROWS, LARGE_ROWS = 70, 106
 MARK = 1000000007
 INTEGER_MARK = 1000007
 WHOLE_ARRAYS = [LARGE_PLACES] * 4
+LIBRARIES = ["", "screen", "beta"]
 STORES = [(1, 3), (3, 10), (64, 2145)]
 OTHERS = [(10, 500, 250), (2, 500, 250), (64, 10000, 10000)]
 HALF_WAY = [
@@ -111,6 +112,11 @@ def hold_screen(refusal, n, p, rho):
 def beta_models(n, rho):
     """The beta-binomial; and Moody's model of up to two assets and at correlation 0, where both have the same exact values."""
     return [BETA] + [MOODY] * (n <= 2 or rho == 0)
+
+
+def models_of(library, n, rho):
+    """The models whose exact values the bounds of a library enclose."""
+    return beta_models(n, rho) if library == "beta" else [MOODY]
 
 
 def hold_beta(n, p, rho):
@@ -255,7 +261,7 @@ def lists(call):
 
 def held_loss(library, n, p, rho, *tranche):
     """The loss of a tranche, held to the exact one."""
-    models = beta_models(n, rho) if library == "beta" else [MOODY]
+    models = models_of(library, n, rho)
     for model in models:
         hold_loss(n, p, rho, *tranche, model, screen_parts if library == "screen" else library_parts)
     return loss_answer(*(loss(side, models[0].steps(side, n, p, rho)[1], *tranche) for side in (0, 1)))

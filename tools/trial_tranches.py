@@ -2,9 +2,8 @@
 
     python3 tools/trial_tranches.py > crates/trial_tranches/stdout
 """
-from trial_pool import OTHERS, REFUSED, SPREAD, lengths_of, longer, random_losses, tranche_losses
+from trial_pool import LIBRARIES, OTHERS, REFUSED, SPREAD, lengths_of, longer, random_losses, tranche_losses
 
-LIBRARIES = ["", "screen", "beta"]
 NONE = [0] * 4
 LARGEST = 2**32 - 1
 THREE = (3, 1000, 3000)

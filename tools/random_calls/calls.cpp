@@ -136,6 +136,7 @@ struct TrancheInputs {
 
     explicit TrancheInputs(Random &random) : count(random_count(random)), records(random, 3 * TRANCHES) {
         for (Tranche &tranche : tranches) tranche = random_tranche(random);
+        if (random.percent(35) && 1 <= count && count <= TRANCHES) put_cut(random, tranches, count);
         std::memcpy(records.data(), tranches, sizeof tranches);
         records.wanted = records.held;
     }
@@ -169,6 +170,15 @@ static bool losses_hold(uint32_t parts, const Exact &exact, const TrancheInputs 
     return true;
 }
 
+// What is promised of the sums of an accepted call, from the numbers that it answered.
+static bool answers_hold(Tally &tally, Pool pool, const TrancheInputs &given, LentAnswer &answer) {
+    if (!touch(given.tranches, given.count)) return true;
+    std::vector<Answer> answers;
+    for (uint32_t i = 0; i < given.count; i++) answers.push_back(answer.given(i));
+    tally.cuts++;
+    return sums_hold(pool, given.tranches, answers);
+}
+
 template <Library library>
 static void losses_call(Random &random, Tally &tally) {
     Pool pool = random_pool(random);
@@ -181,6 +191,7 @@ static void losses_call(Random &random, Tally &tally) {
     if (refusal == 0) want_losses(library, pool, store, given, bounds);
     want_answers(tally, refusal ? 0 : given.count, bounds, answer);
     bool same = call_losses(library, pool, store, given, answer) == refusal && answer.as_wanted() && given.records.as_wanted();
+    if (same && refusal == 0) same = answers_hold(tally, pool, given, answer);
     conclude(tally, library, pool, store, refusal, same,
              [&](const Exact &exact) { return losses_hold(parts_of(library, pool.assets), exact, given, bounds); });
 }

@@ -1,8 +1,9 @@
-// The exact model in whole numbers, and what is promised of bounds, losses, columns, verdicts and shift lists.
+// The exact model in whole numbers, and what is promised of bounds, losses and their sums, columns, verdicts and shift lists.
 #pragma once
 #include <gmpxx.h>
 #include <algorithm>
 #include <cstdlib>
+#include <cstring>
 #include <vector>
 #include "steps.hpp"
 
@@ -180,6 +181,36 @@ inline bool loss_holds(uint32_t parts, const Exact &exact, Tranche tranche, Boun
         if (units > 0) total += exact.chances[x] * units;
     }
     return encloses(parts, least_exponent(exact.n), bounds, total, exact.whole * width);
+}
+
+// Whether tranches touch from 0 to 10,000 and have one recovery.
+inline bool touch(const Tranche *tranches, uint32_t count) {
+    uint32_t end = 0;
+    for (uint32_t i = 0; i < count; i++) {
+        if (tranches[i].recovery != tranches[0].recovery || tranches[i].lower != end) return false;
+        end = tranches[i].upper;
+    }
+    return end == WHOLE;
+}
+
+// The exact value of an f64.
+inline mpq_class number_of(uint64_t bits) {
+    double number;
+    std::memcpy(&number, &bits, sizeof number);
+    return mpq_class(number);
+}
+
+// The numbers that the losses of such tranches carry, times the widths, add to at most and to at least the expected loss of the
+// pool.
+inline bool sums_hold(Pool pool, const Tranche *tranches, const std::vector<Answer> &answers) {
+    mpq_class low = 0, high = 0, loss = pool.probability * (WHOLE - tranches[0].recovery);
+    for (size_t i = 0; i < answers.size(); i++) {
+        auto [kind, first, second] = answers[i];
+        uint32_t width = tranches[i].upper - tranches[i].lower;
+        if (kind == 2) low += width * number_of(first);
+        if (kind != 0) high += width * number_of(kind == 2 ? second : first);
+    }
+    return low * WHOLE <= loss && loss <= high * WHOLE;
 }
 
 // The expected number of defaults from the i-th to the j-th, over how many the layer has.

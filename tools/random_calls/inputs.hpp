@@ -1,6 +1,7 @@
 // Random inputs from a seed, with the edges of every range among them.
 #pragma once
 #include <initializer_list>
+#include <set>
 #include <string>
 #include "steps.hpp"
 
@@ -57,6 +58,20 @@ inline Tranche random_tranche(Random &random) {
     if (random.percent(20) && recovery < WHOLE) upper = WHOLE - recovery;
     uint32_t lower = random.percent(20) ? upper - 1 : random.percent(20) ? 0 : random.below(upper);
     return {recovery, lower, upper};
+}
+
+// Puts so many tranches, at most eight, that touch from 0 to 10,000 and have one recovery. Some cut points are neighbours.
+inline void put_cut(Random &random, Tranche *tranches, uint32_t count) {
+    uint32_t recovery = random.percent(15) ? random.below(2) : basis_points(random) % (WHOLE + 1);
+    uint32_t first = random.between(1, WHOLE - 1 - TRANCHES);
+    bool neighbours = random.percent(20);
+    std::set<uint32_t> ends{0, WHOLE};
+    while (ends.size() <= count) ends.insert(neighbours ? random.between(first, first + TRANCHES) : basis_points(random) % WHOLE);
+    auto end = ends.begin();
+    for (uint32_t i = 0; i < count; i++) {
+        uint32_t lower = *end++;
+        tranches[i] = {recovery, lower, *end};
+    }
 }
 
 inline uint32_t random_count(Random &random) {

@@ -53,6 +53,7 @@ struct LentAnswer {
         firsts.wanted_data()[place] = answer.first;
         seconds.wanted_data()[place] = answer.second;
     }
+    Answer given(size_t place) { return {kinds.data()[place], firsts.data()[place], seconds.data()[place]}; }
     bool as_wanted() const { return kinds.as_wanted() && firsts.as_wanted() && seconds.as_wanted(); }
 };
 

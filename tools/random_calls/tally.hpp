@@ -16,7 +16,7 @@ struct Tally {
     // How many larger pools are held to the exact model. Of those of up to 20 assets all are.
     static constexpr uint64_t LARGE_CHECKS = 200;
     const char *name;
-    uint64_t calls = 0, mismatches = 0;
+    uint64_t calls = 0, mismatches = 0, cuts = 0;
     uint64_t refusals[NO_LINE + 1] = {}, kinds[3] = {}, verdicts[3] = {}, accepted[RANGES] = {}, exact[RANGES] = {};
 
     // Whether an accepted pool is to be held to the exact model.
@@ -50,6 +50,7 @@ struct Tally {
         print_three("    accepted: %lu of 1 to 20 assets, %lu of 21 to 64, %lu of 65 to 100\n", accepted);
         print_three("    held to the exact model: %lu of 1 to 20 assets, %lu of 21 to 64, %lu of 65 to 100\n", exact);
         print_three("    losses: %lu untouched, %lu faint, %lu shown\n", kinds);
+        if (cuts) std::printf("    held to the sums of touching tranches: %lu\n", cuts);
         print_three("    verdicts: %lu refused, %lu passed, %lu failing\n", verdicts);
         std::fflush(stdout);
     }

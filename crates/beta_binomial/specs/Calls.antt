@@ -44,5 +44,5 @@ betaLossRefusal pool tranches count =
 pub record BetaReplies (pool : Pool) (tranches : List Tranche) (count refusal : ℕ) (losses : List LossAnswer) : Type 0 where
   pub refusal-is : refusal ≡ betaLossRefusal pool tranches count
   pub holds : refusal ≡ 0 → HoldsBeta (pool .assets) (pool .probability) (pool .correlation)
-  pub replies : RepliesLosses (distanceFor (pool .assets)) (betaDefaults (pool .assets) (pool .probability) (pool .correlation))
+  pub replies : RepliesLosses (distanceFor (pool .assets)) (pool .probability) (betaDefaults (pool .assets) (pool .probability) (pool .correlation))
       (λ side. keptBetaDefaults side (pool .assets) (pool .probability) (pool .correlation)) (take count tranches) refusal losses

@@ -2,13 +2,13 @@
 -- Assumes nothing.
 use Prim.Native.Nat.{ℕ, _-_, _*_, _/_, _%_, _^_, _<_}
 use mathlib.Core.Path.{_≡_}
-use mathlib.Core.Bool.{Bool, false, cond}
+use mathlib.Core.Bool.{Bool, true, false, cond}
 use lib.Dec.{eqb, ltb}
 use lib.IntN.{ℤ, pos, negsuc, _+ℤ_}
 use lib.Ieee as Ieee
-use lib.Ieee.{Float, binary64, toBits}
+use lib.Ieee.{Float, nan, inf, fin, binary64, toBits}
 use lib.Ieee.Exact.{HasValue}
-use Rattle.model.specs.Fraction.{Fraction, AtMost, Less}
+use Rattle.model.specs.Fraction.{Fraction, AtMost, Less, integer}
 use Rattle.kept.specs.declared.Kept.{Kept}
 use Rattle.kept.specs.Rounding.{IsKept, scaled, value}
 pub mod Laws
@@ -39,6 +39,14 @@ pub record IsBinary64 (x : Kept) (r : Float) : Type 0 where
   pub sign : toBits binary64 r / 2 ^ 63 ≡ 0
   pub exponent-field : pos (toBits binary64 r / 2 ^ 52 % 2 ^ 11) ≡ x .exponent +ℤ pos 1054
   pub fraction-field : toBits binary64 r % 2 ^ 52 ≡ (x .significand - 2 ^ 31) * 2 ^ 21
+
+-- The exact value of a finite f64 that is not below zero: significand × 2^exponent. Zero stands for that of any other; the f64 of a kept number is none of these, by
+-- `IsBinary64.exact`.
+unfoldable pub exactValue : Float → Fraction
+exactValue (fin false s e) = scaled s e
+exactValue (fin true s e) = integer 0
+exactValue (inf sign) = integer 0
+exactValue nan = integer 0
 
 -- ---- for the functions that `to_f64` is made of
 

@@ -1,9 +1,9 @@
 -- Fractions in whole numbers, and basis points.
 -- Assumes nothing.
-use Prim.Native.Nat.{ℕ, _+_, _*_, _-_, _^_, _≤_, _<_}
+use Prim.Native.Nat.{ℕ, zero, suc, _+_, _*_, _-_, _^_, _≤_, _<_}
 use mathlib.Core.Path.{_≡_}
 use mathlib.Core.Bool.{Bool}
-use native.Mathlib.Nat.{mul-pos, one-le-pow}
+use native.Mathlib.Nat.{mul-pos, one-le-pow, le-step, lt-suc-self}
 use lib.Dec.{leb, lit<}
 pub mod Laws
 
@@ -64,6 +64,11 @@ times x y = record {
 -- x / m
 unfoldable pub divided : Fraction → (m : ℕ) → 0 < m → Fraction
 divided x m above = record { num = x .num; den = x .den * m; positive = mul-pos (x .positive) above }
+
+-- The sum of the first m terms: f 0 + f 1 + … + f (m − 1). A term may rest on its place being below m.
+unfoldable pub fractionSum : (m : ℕ) → ((i : ℕ) → i < m → Fraction) → Fraction
+fractionSum zero f = integer 0
+fractionSum (suc m) f = plus (fractionSum m (λ i l. f i (le-step l))) (f m (lt-suc-self m))
 
 -- One in basis points.
 unfoldable pub whole : ℕ

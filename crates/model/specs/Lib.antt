@@ -2,6 +2,7 @@ pub mod Number
 pub mod Fraction
 pub mod Passes
 pub mod Chances
+pub mod Touching
 pub mod CorrelatedBinomial
 pub mod ClosedForm
 pub mod BetaBinomial

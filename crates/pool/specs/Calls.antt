@@ -34,10 +34,11 @@ pub record PrintsRow (off : Fraction) (r : Chances) (low : ℕ → Kept) (units 
   pub units-are : units′ ≡ entriesAfter (r .assets) (printedRow (r .assets) low) refusal units
   pub holds-column : refusal ≡ 0 → HoldsColumn off r low units′
 
--- What a loss call answers for the tranches within its count, by the number of its refusal, and what holds of the losses.
-pub record RepliesLosses (g : ℕ) (r : Chances) (c : Side → ℕ → Kept) (ts : List Tranche) (refusal : ℕ) (losses : List LossAnswer) : Type 0 where
+-- What a loss call answers for the tranches within its count, by the number of its refusal, and what holds of the losses; p is the default probability
+-- by which the row is made.
+pub record RepliesLosses (g p : ℕ) (r : Chances) (c : Side → ℕ → Kept) (ts : List Tranche) (refusal : ℕ) (losses : List LossAnswer) : Type 0 where
   pub losses-are : losses ≡ lossesAfter (r .assets) c ts refusal
-  pub holds-losses : refusal ≡ 0 → HoldsLosses g r c ts losses
+  pub holds-losses : refusal ≡ 0 → HoldsLosses g p r c ts losses
 
 -- What a layer call answers, by the number of its refusal, and what holds of the loss.
 pub record RepliesLayer (g : ℕ) (r : Chances) (c : Side → ℕ → Kept) (i j refusal : ℕ) (loss : LossAnswer) : Type 0 where
@@ -65,7 +66,7 @@ pub record Replies
     (refuses : Pool → List Tranche → ℕ → Store → ℕ) (g : ℕ → ℕ) (pool : Pool) (tranches : List Tranche) (count : ℕ) (before after : Store) (refusal : ℕ)
     (losses : List LossAnswer) : Type 0 where
   pub fills : Fills (refuses pool tranches count before) g pool before after refusal
-  pub replies : RepliesLosses (g (pool .assets)) (defaults (pool .assets) (pool .probability) (pool .correlation))
+  pub replies : RepliesLosses (g (pool .assets)) (pool .probability) (defaults (pool .assets) (pool .probability) (pool .correlation))
       (λ side. keptDefaults side (pool .assets) (pool .probability) (pool .correlation)) (take count tranches) refusal losses
 
 -- ---- layer

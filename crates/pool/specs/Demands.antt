@@ -7,6 +7,8 @@
 -- column are differences of tails rounded to nearest, add to exactly 100,000 units, and each is less than 1.5 units off for up to 64 assets and less than 2 units for
 -- more; the entries of a shift list past the first add to less than 1.3 units for each asset, and each is less than 1.3 units off; a claimed row that is at most half
 -- a unit off passes, and one that passes is at most half a unit and 100,000 × (high − low) off, which is at most 1.5 units for up to 64 assets and 2.5 for more.
+-- Of tranches that touch from 0 to 10,000 with one R, the exact losses, each times B − A, add to p × (10,000 − R) / 10,000; the low bounds, and the low numbers that are
+-- answered, add to no more than that, the high ones to no less.
 -- Assumes nothing.
 use Prim.Native.Nat.{ℕ, suc, _+_, _-_, _*_, _/_, _%_, _^_, _≤_, _<_}
 use mathlib.Core.Path.{_≡_}
@@ -20,7 +22,7 @@ use lib.ListN.{length, getD, drop}
 use lib.Ieee.{Float, binary64, toBits}
 use lib.Ieee.Exact.{HasValue}
 use Rattle.model.specs.Number.{sum, integerSum}
-use Rattle.model.specs.Fraction.{Fraction, Same, AtMost, Less, integer, plus, minus, times}
+use Rattle.model.specs.Fraction.{Fraction, Same, AtMost, Less, integer, plus, minus, times, fractionSum}
 use Rattle.model.specs.Chances.{Chances, chance, tail, expectedLoss, layerLoss}
 use Rattle.model.specs.CorrelatedBinomial.{probability, defaults}
 use Rattle.model.specs.BetaBinomial.{betaProbability, betaDefaults}
@@ -48,6 +50,7 @@ use Rattle.expected_losses.specs.Loss.{lossesIn}
 use Rattle.layer_losses.specs.declared.LayerAnswer.{LayerAnswer}
 use Rattle.pool.specs.Calls.{columnRefusal, Prints, lossRefusal, Replies}
 pub mod Theorems
+pub mod Cases
 
 -- ---- the demands
 
@@ -290,12 +293,59 @@ givenAt tranches i = getD tranches i (record { recovery = 0; lower = 0; upper = 
 abbrev pub lossAt : Answer → ℕ → Loss
 lossAt answer i = getD (answer .losses) i (record { loss = Untouched }) .loss
 
--- What an answer holds at its eight places. Demands 2 and 3 are for the places within the count of an accepted call alone. A place past the count is untouched, and
--- so are all eight on a refusal.
-pub record LossesDemands (parts : ℕ) (r : Chances) (c : Side → ℕ → Kept) (tranches : List Tranche) (count : ℕ) (answer : Answer) : Type 0 where
+-- The tranches within the count touch from 0 to 10,000 with one recovery: there is a first one, and its A is 0; each B is the next A; the last B is 10,000; every R is
+-- that of the first.
+pub record Touch (tranches : List Tranche) (count : ℕ) : Type 0 where
+  pub some : 0 < count
+  pub first : givenAt tranches 0 .lower ≡ 0
+  pub next : (i : ℕ) → suc i < count → givenAt tranches (suc i) .lower ≡ givenAt tranches i .upper
+  pub last : givenAt tranches (count - 1) .upper ≡ 10000
+  pub recoveries : (i : ℕ) → i < count → givenAt tranches i .recovery ≡ givenAt tranches 0 .recovery
+
+-- The two numbers that a loss carries, exactly: 0 and 0 if it is untouched, 0 and its one number if it is faint, its two numbers if it is shown.
+abbrev pub Carries : (low high : Fraction) → Loss → Type 0
+Carries low high Untouched = (Same low (integer 0)) × (Same high (integer 0))
+Carries low high (Faint number) = (Same low (integer 0)) × (Exactly number high)
+Carries low high (Shown bounds) = (Exactly (bounds .low) low) × (Exactly (bounds .high) high)
+
+-- What the pool loses, in basis points: p × (10,000 − R) / 10,000.
+unfoldable pub lossOfPool : (p R : ℕ) → Fraction
+lossOfPool p R = record { num = p * (10000 - R); den = 10000; positive = lit< tt }
+
+-- The losses of the tranches within the count, each times B − A, added.
+abbrev pub addedUp : (tranches : List Tranche) (count : ℕ) (loss : (i : ℕ) → i < count → Fraction) → Fraction
+addedUp tranches count loss = fractionSum count (λ i l. times (integer (givenAt tranches i .upper - givenAt tranches i .lower)) (loss i l))
+
+-- A loss carries two numbers.
+pub record CarriesTwo (loss : Loss) : Type 0 where
+  pub low : Fraction
+  pub high : Fraction
+  pub carries : Carries low high loss
+
+-- Touching tranches share out what the pool loses. The exact losses add up to it. The bounds of step 6 add up to no more on the low side, and to no less on the high side.
+-- Each loss carries two numbers, and so do the low and the high ones of these.
+pub record SharedDemands (p : ℕ) (r : Chances) (c : Side → ℕ → Kept) (tranches : List Tranche) (count : ℕ) (answer : Answer) : Type 0 where
+  pub wide : (i : ℕ) → i < count → 0 < (givenAt tranches i .upper - givenAt tranches i .lower) * r .assets
+  pub exact : Same (addedUp tranches count (λ i l. let t = givenAt tranches i in expectedLoss r (t .recovery) (t .lower) (t .upper) (wide i l)))
+      (lossOfPool p (givenAt tranches 0 .recovery))
+  pub low-bounds : AtMost
+      (addedUp tranches count (λ i l. let t = givenAt tranches i in value (keptLoss Low (r .assets) (c Low) (t .recovery) (t .lower) (t .upper) (wide i l))))
+      (lossOfPool p (givenAt tranches 0 .recovery))
+  pub high-bounds : AtMost (lossOfPool p (givenAt tranches 0 .recovery))
+      (addedUp tranches count (λ i l. let t = givenAt tranches i in value (keptLoss High (r .assets) (c High) (t .recovery) (t .lower) (t .upper) (wide i l))))
+  pub carried : (i : ℕ) → i < count → CarriesTwo (lossAt answer i)
+  pub low-carried : (low high : ℕ → Fraction) → ((i : ℕ) → i < count → Carries (low i) (high i) (lossAt answer i))
+      → AtMost (addedUp tranches count (λ i l. low i)) (lossOfPool p (givenAt tranches 0 .recovery))
+  pub high-carried : (low high : ℕ → Fraction) → ((i : ℕ) → i < count → Carries (low i) (high i) (lossAt answer i))
+      → AtMost (lossOfPool p (givenAt tranches 0 .recovery)) (addedUp tranches count (λ i l. high i))
+
+-- What an answer holds at its eight places, for a row that is made by a default probability p. Demands 2 and 3 are for the places within the count of an accepted call alone. A place past the
+-- count is untouched, and so are all eight on a refusal.
+pub record LossesDemands (parts p : ℕ) (r : Chances) (c : Side → ℕ → Kept) (tranches : List Tranche) (count : ℕ) (answer : Answer) : Type 0 where
   pub eight : length (answer .losses) ≡ 8
   pub within : answer .refusal ≡ 0 → (i : ℕ) → i < 8 → i < count → TrancheDemands parts r c (givenAt tranches i) (lossAt answer i)
   pub past : answer .refusal ≡ 0 → (i : ℕ) → i < 8 → count ≤ i → lossAt answer i ≡ Untouched
+  pub shared : answer .refusal ≡ 0 → Touch tranches count → SharedDemands p r c tranches count answer
   pub refused : (answer .refusal ≡ 0 → ⊥) → (i : ℕ) → i < 8 → lossAt answer i ≡ Untouched
 
 -- What steps 4 to 6 make for n assets, of a row of chances in general: bounds of the chances and of the tails; and no number that is made, those of the entries
@@ -409,7 +459,7 @@ module _ (pool : Pool) where
     pub record TranchesDemandsBy (parts : ℕ → ℕ) (grounds : List Ground) (before after : Slices) (answer : Answer) : Type 0 where
       pub one : Demand1 grounds (answer .refusal) before after
       pub store : StoreDemands parts before after (answer .refusal)
-      pub losses : LossesDemands (parts n) (defaults n p ρ) (λ side. keptDefaults side n p ρ) tranches count answer
+      pub losses : LossesDemands (parts n) p (defaults n p ρ) (λ side. keptDefaults side n p ρ) tranches count answer
 
     abbrev pub TranchesDemands : (before after : Slices) (answer : Answer) → Type 0
     TranchesDemands before = TranchesDemandsBy partsFor (lossGrounds 100 n p ρ tranches count (lengthsOf before)) before
@@ -428,7 +478,7 @@ module _ (pool : Pool) where
     pub record BetaTranchesDemands (answer : Answer) : Type 0 where
       pub number : answer .refusal ≡ firstGround (betaLossGrounds 100 n p ρ tranches count)
       pub row : answer .refusal ≡ 0 → BetaRowDemands (partsFor n)
-      pub losses : LossesDemands (partsFor n) (betaDefaults n p ρ) (λ side. keptBetaDefaults side n p ρ) tranches count answer
+      pub losses : LossesDemands (partsFor n) p (betaDefaults n p ρ) (λ side. keptBetaDefaults side n p ρ) tranches count answer
 
 -- The slice is lent to be read, so that no call can write to it. Row k of a filled store has the significands of its bounds.
 pub record RowDemands (n k : ℕ) (significands part : List ℕ) (refusal : ℕ) : Type 0 where

@@ -8,8 +8,10 @@ use lib.IntN.{negsuc}
 use lib.Ieee.{Float}
 use Rattle.model.specs.Fraction.{Fraction, Same, AtMost, Less, integer}
 use Rattle.kept.specs.declared.Kept.{Kept}
+use Rattle.kept.specs.declared.Side.{Side}
+use Rattle.kept.specs.declared.Side.the-variants.{Low, High}
 use Rattle.kept.specs.Rounding.{value, nought}
-use Rattle.kept.specs.Binary64.{leastShown, belowShown, toBinary64, IsBinary64}
+use Rattle.kept.specs.Binary64.{leastShown, belowShown, toBinary64, IsBinary64, exactValue}
 use Rattle.steps.specs.Enclosure.{Enclosed}
 pub mod Laws
 
@@ -34,6 +36,15 @@ unfoldable pub lossAnswer : (low high : Kept) → LossAnswer
 lossAnswer low high =
     cond (eqb (high .significand) 0) untouched
     (cond (belowShown low) (faint (toBinary64 (raisedToShown high))) (shown (toBinary64 low) (toBinary64 high)))
+
+-- The number that an answer carries on a side, exactly. A shown loss has its two; a faint one has 0 on the low side and its one number on the high side; an untouched
+-- one has 0 on both.
+unfoldable pub carried : Side → LossAnswer → Fraction
+carried side untouched = integer 0
+carried Low (faint number) = integer 0
+carried High (faint number) = exactValue number
+carried Low (shown low high) = exactValue low
+carried High (shown low high) = exactValue high
 
 -- ---- what each answer says of the exact loss v and of its two bounds, which are to be at most one part in g apart
 

@@ -6,12 +6,13 @@ use mathlib.Core.List.{List}
 use lib.ListN.{length, getD}
 use lib.IntN.{ℤ, pos, natAbs}
 use Rattle.model.specs.Number.{sum, integerSum}
-use Rattle.model.specs.Fraction.{Fraction, Less, integer, plus, minus, times, whole}
+use Rattle.model.specs.Fraction.{Fraction, Same, Less, integer, plus, minus, times, whole}
 use Rattle.model.specs.Chances.{Chances, chance, tail, expectedLoss, layerLoss}
+use Rattle.model.specs.Touching.{poolLoss}
 use Rattle.kept.specs.declared.Kept.{Kept}
 use Rattle.kept.specs.declared.Side.{Side}
 use Rattle.kept.specs.declared.Side.the-variants.{Low, High}
-use Rattle.kept.specs.Rounding.{value}
+use Rattle.kept.specs.Rounding.{OnSide, value}
 use Rattle.steps.specs.Chances.{keptTail, keptLoss, keptLayer}
 use Rattle.steps.specs.Column.{unitsOfCertainty, printedTail, exactUnits, half, toNearest, Within, AtMostApart}
 use Rattle.steps.specs.Shifts.{tailShift}
@@ -19,7 +20,7 @@ use Rattle.steps.specs.Enclosure.{Enclosed}
 use Rattle.steps.specs.Exponents.{Ranged}
 use Rattle.steps.specs.declared.Tranche.{Tranche}
 use Rattle.steps.specs.Loss.{LossAnswer, untouched, lossAnswer, Says}
-use Rattle.steps.specs.Tranches.{trancheAt}
+use Rattle.steps.specs.Tranches.{trancheAt, recoveries, TranchesTouch, TranchesWide, exactTotal, boundTotal, carriedTotal}
 use Rattle.steps.specs.declared.Verdict.{Verdict}
 use Rattle.steps.specs.declared.Verdict.the-variants.{Passed}
 use Rattle.steps.specs.Claims.{RowPasses}
@@ -86,9 +87,18 @@ HoldsTranche g r c t wide =
 abbrev pub HoldsLayer : (g : ℕ) (r : Chances) (c : Side → ℕ → Kept) (i j : ℕ) → LossAnswer → Type 0
 HoldsLayer g r c i j = HoldsLoss g (λ side. keptLayer side (r .assets) (c side) i j) (layerLoss r i j)
 
--- What holds of the losses that stand at the places of tranches: of each tranche, with its own recovery, what holds of its loss; past them each is untouched.
-pub record HoldsLosses (g : ℕ) (r : Chances) (c : Side → ℕ → Kept) (ts : List Tranche) (losses : List LossAnswer) : Type 0 where
-  pub wide : (i : ℕ) → i < length ts → 0 < (trancheAt ts i .upper - trancheAt ts i .lower) * r .assets
+-- What holds of the losses of tranches that touch from 0 to 10,000 with one recovery, each times B − A, p being the default probability by which the row is made: the exact
+-- ones add to p × (10,000 − R) / 10,000; the bounds of step 6, and the numbers that the answers carry, add on the low side to no more, on the high side to no less.
+pub record SharesOut (p : ℕ) (r : Chances) (c : Side → ℕ → Kept) (ts : List Tranche) (wide : TranchesWide (r .assets) ts) (losses : List LossAnswer) : Type 0 where
+  pub exact : Same (exactTotal r ts wide) (poolLoss p (recoveries ts 0))
+  pub bounds : (side : Side) → OnSide side (boundTotal side (r .assets) (c side) ts wide) (poolLoss p (recoveries ts 0))
+  pub carry : (side : Side) → OnSide side (carriedTotal side ts losses) (poolLoss p (recoveries ts 0))
+
+-- What holds of the losses that stand at the places of tranches: of each tranche, with its own recovery, what holds of its loss; past them each is untouched; where the
+-- tranches touch, they share out what the pool loses.
+pub record HoldsLosses (g p : ℕ) (r : Chances) (c : Side → ℕ → Kept) (ts : List Tranche) (losses : List LossAnswer) : Type 0 where
+  pub wide : TranchesWide (r .assets) ts
   pub loss : (i : ℕ) → i < length ts → (wide : 0 < (trancheAt ts i .upper - trancheAt ts i .lower) * r .assets)
       → HoldsTranche g r c (trancheAt ts i) wide (getD losses i untouched)
   pub past : (i : ℕ) → length ts ≤ i → getD losses i untouched ≡ untouched
+  pub shares-out : TranchesTouch ts → SharesOut p r c ts wide losses

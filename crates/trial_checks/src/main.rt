@@ -2,48 +2,14 @@
 // byte behind it: how many cases there are, and for each the pool whose store the slices hold (of no assets where they hold marks),
 // the pool, the lengths of the four slices, how many claims there are, and the claims. tools/trial_checks.py writes them, and works
 // the same lines out in exact whole numbers.
-use libc::STDIN_FILENO;
-use pool::Pool;
+use trial_inputs::given::read_pool;
 use trial_lines::LARGE_ROWS;
 use trial_lines::Lengths;
-use trial_lines::pool_of;
 use trial_pool::run_check;
-
-// One more than the digits of the largest u32.
-const BYTES: u32 = 11;
-
-// The next byte, or a newline behind the last.
-fn read_byte() -> u8 {
-    let mut byte = [b'\n'];
-    io::read_full(STDIN_FILENO, &mut byte);
-    byte[0]
-}
-
-// The number up to the next byte that is no digit.
-fn read_number() -> u32 {
-    let mut number: u64 = 0;
-    for _ in 0..BYTES {
-        let byte = read_byte();
-        if byte < b'0' {
-            return number as u32;
-        }
-        if byte > b'9' {
-            return number as u32;
-        }
-        number = (number * 10 + (byte - b'0') as u64) % 0x1_0000_0000;
-    }
-    number as u32
-}
+use trial_support::read_number;
 
 fn read_length() -> usize {
     read_number() as usize
-}
-
-fn read_pool() -> Pool {
-    let assets = read_number();
-    let probability = read_number();
-    let correlation = read_number();
-    pool_of(assets, probability, correlation)
 }
 
 fn read_lengths() -> Lengths {

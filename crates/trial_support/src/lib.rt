@@ -1,9 +1,13 @@
-// What the test programs share: printing, random words, checksums, kept numbers from their parts.
+// What the test programs share: printing, reading numbers, random words, checksums, kept numbers from their parts.
 use kept::Kept;
+use libc::STDIN_FILENO;
 use libc::STDOUT_FILENO;
 ghost use mathlib.Core.Path.{_≡_};
 ghost use lib.IntN.{natAbs};
 ghost use Rattle.kept.specs.Rounding.{Operand};
+
+// One more than the digits of the largest u32.
+const BYTES: u32 = 11;
 
 pub fn write(text: &[u8]) {
     io::write_all(STDOUT_FILENO, text);
@@ -47,6 +51,29 @@ pub fn bits(x: f64) -> u64 {
 
 pub fn write_bits(x: f64) {
     write_word(bits(x));
+}
+
+// The next byte, or a newline behind the last.
+fn read_byte() -> u8 {
+    let mut byte = [b'\n'];
+    io::read_full(STDIN_FILENO, &mut byte);
+    byte[0]
+}
+
+// The number up to the next byte that is no digit.
+pub fn read_number() -> u32 {
+    let mut number: u64 = 0;
+    for _ in 0..BYTES {
+        let byte = read_byte();
+        if byte < b'0' {
+            return number as u32;
+        }
+        if byte > b'9' {
+            return number as u32;
+        }
+        number = (number * 10 + (byte - b'0') as u64) % 0x1_0000_0000;
+    }
+    number as u32
 }
 
 // The kept number with this significand and this exponent, or zero where they make no operand.

@@ -13,18 +13,18 @@ use lib.IntN.{ℤ, pos, negsuc, _+ℤ_, +ℤ-assoc}
 use lib.Pow.{pow-pos, pow-mono, pow-add, shl-lt, shl-shr}
 use lib.Signed.{ltZ}
 use lib.Ieee as Ieee
-use lib.Ieee.{Float, fin, binary64, up, down, size, toBits}
+use lib.Ieee.{Float, nan, inf, fin, binary64, up, down, size, toBits}
 use lib.Ieee.Digits.{size-lt, size-le}
 use lib.Ieee.Exact.{HasValue, round-exact}
 use lib.Ieee.Fits.{down-pos}
 use lib.Ieee.Positive.{mul-at, positive-of-value}
 use lib.Ieee.Scale.{round-same}
-use Rattle.model.specs.Fraction.{AtMost, Less}
+use Rattle.model.specs.Fraction.{Fraction, Same, AtMost, Less}
 use Rattle.kept.specs.declared.Kept.{Kept}
 use Rattle.kept.specs.Rounding.{Normal, IsKept, scaled, value}
 use Rattle.kept.specs.Rounding.Powers.{power-below, scaled-shift}
 use Rattle.kept.specs.Rounding.Laws.{normal-positive, kept-normal}
-use Rattle.kept.specs.Binary64.{leastShown, belowShown, Shown, Doublings, ShownExponent, toBinary64, IsBinary64, scaledBy}
+use Rattle.kept.specs.Binary64.{leastShown, belowShown, Shown, Doublings, ShownExponent, toBinary64, IsBinary64, exactValue, scaledBy}
 
 -- A normal significand against powers of two.
 under-power : {s : ℕ} → Normal s → (a b : ℕ) → 32 + a ≤ b → s * 2 ^ a < 2 ^ b
@@ -193,6 +193,14 @@ shown-binary64 {x} shown =
 
 pub is-binary64 : {x : Kept} {r : Float} → Shown x → r ≡ toBinary64 x → IsBinary64 x r
 is-binary64 shown is = rw is (shown-binary64 shown)
+
+-- What has a fraction for its value has that exact value.
+pub exact-value : (r : Float) (z : Fraction) → HasValue r false (z .num) (z .den) → Same (exactValue r) z
+unfolding exactValue scaled
+exact-value nan z has = absurd has
+exact-value (inf sign) z has = absurd has
+exact-value (fin true s e) z has = absurd (true≢false (has .0))
+exact-value (fin false s e) z has = record { cross = has .1 }
 
 -- All digits are done.
 pub all-doubled : {x : Kept} {n : ℕ} {r : Float} → Doublings (x .exponent) n → Doubled (x .significand) n 1 r → r ≡ toBinary64 x

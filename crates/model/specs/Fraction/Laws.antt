@@ -1,17 +1,18 @@
 -- Laws of fractions and basis points.
 -- Assumes nothing.
 use Prim.Native.Nat.{ℕ, zero, suc, _+_, _-_, _*_, _^_, _≤_, _<_}
-use mathlib.Core.Path.{_≡_, sym, ap, _∙_}
+use mathlib.Core.Path.{_≡_, sym, ap, subst, _∙_}
 use mathlib.Core.Bool.{true}
 use native.Mathlib.Nat.{add-sub-of-le, sub-le, one-mul, pow-zero, pow-suc, pow-succ', mul-pos, mul-le-mul, mul-le-mul-right, mul-lt-mul-of-pos-right, lt-of-not-le}
-use native.Mathlib.Nat.{eq-of-mul-eq-mul-right, le-of-mul-le-mul-right}
+use native.Mathlib.Nat.{eq-of-mul-eq-mul-right, le-of-mul-le-mul-right, le-step, lt-suc-self}
 use native.Mathlib.Decide.{decLe}
 use native.Mathlib.Omega.{arith}
 use native.Mathlib.Bridge.{le-prop}
 use borrow.Author.Tests.{leb-true, le-leb, lt-leb}
 use lib.Dec.{leb, lit≤}
 use lib.Pow.{pow-add}
-use Rattle.model.specs.Fraction.{Fraction, Same, AtMost, atMost, Less, plus, minus, times, divided, whole, complement, over}
+use Rattle.model.specs.Number.{sum}
+use Rattle.model.specs.Fraction.{Fraction, Same, AtMost, atMost, Less, integer, plus, minus, times, divided, fractionSum, whole, complement, over}
 
 -- ---- equality and order
 
@@ -161,6 +162,27 @@ times-same = mono-same times (λ x y v w. times-mono)
 
 pub divided-same : {x y : Fraction} (m : ℕ) (above : 0 < m) → Same x y → Same (divided x m above) (divided y m above)
 divided-same m above e = mono-same (λ x y. divided x m above) (λ x y v w l k. divided-mono m above l) e e
+
+-- ---- sums of many
+
+pub fraction-sum-mono : (m : ℕ) {f g : (i : ℕ) → i < m → Fraction} → ((i : ℕ) (l : i < m) → AtMost (f i l) (g i l)) → AtMost (fractionSum m f) (fractionSum m g)
+unfolding fractionSum
+fraction-sum-mono zero h = at-most-refl
+fraction-sum-mono (suc m) h = plus-mono (fraction-sum-mono m (λ i l. h i (le-step l))) (h m (lt-suc-self m))
+
+pub fraction-sum-same : {m k : ℕ} → m ≡ k → {f : (i : ℕ) → i < m → Fraction} {g : (i : ℕ) → i < k → Fraction}
+    → ((i : ℕ) (l : i < m) (h : i < k) → Same (f i l) (g i h)) → Same (fractionSum m f) (fractionSum k g)
+fraction-sum-same {m} {k} as-many {f} {g} same =
+    subst (λ k. (g : (i : ℕ) → i < k → Fraction) → ((i : ℕ) (l : i < m) (h : i < k) → Same (f i l) (g i h)) → Same (fractionSum m f) (fractionSum k g)) as-many
+    (λ g same. at-most-antisymm (fraction-sum-mono m (λ i l. at-most-of-same (same i l l))) (fraction-sum-mono m (λ i l. at-most-of-same (same-sym (same i l l))))) g same
+
+-- Of terms that have one denominator.
+pub fraction-sum-over : (m d : ℕ) (above : 0 < d) {f : (i : ℕ) → i < m → Fraction} (g : ℕ → ℕ)
+    → ((i : ℕ) (l : i < m) → Same (f i l) (divided (integer (g i)) d above)) → Same (fractionSum m f) (divided (integer (sum m g)) d above)
+unfolding fractionSum sum integer divided plus
+fraction-sum-over zero d above g h = omega arith
+fraction-sum-over (suc m) d above g h =
+    same-trans (plus-same (fraction-sum-over m d above g (λ i l. h i (le-step l))) (h m (lt-suc-self m))) (record { cross = omega arith })
 
 -- ---- basis points
 

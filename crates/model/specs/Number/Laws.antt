@@ -43,6 +43,14 @@ unfolding sum
 sum-const zero x = omega arith
 sum-const (suc n) x = omega (arith, sum-const n x)
 
+-- Sums of sums, in either order.
+pub sum-exchange : (m n : ℕ) (f : ℕ → ℕ → ℕ) → sum m (λ i. sum n (λ j. f i j)) ≡ sum n (λ j. sum m (λ i. f i j))
+unfolding sum
+sum-exchange zero n f = omega (arith, sum-const n 0)
+sum-exchange (suc m) n f =
+    ap (λ z. z + sum n (λ j. f m j)) (sum-exchange m n f)
+    ∙ sym (sum-plus n (λ j. sum m (λ i. f i j) + f m j) (λ j. sum m (λ i. f i j)) (λ j. f m j) (λ j l. refl))
+
 -- The last term alone, where the others are zero.
 pub sum-last : (n : ℕ) (f : ℕ → ℕ) → ((i : ℕ) → i < n → f i ≡ 0) → sum (suc n) f ≡ f n
 unfolding sum
@@ -104,6 +112,12 @@ between-total n f =
     ∙ sum-cong (suc n) (λ j l. let all : min (j - 0) n ≡ j = omega arith in rw all (omega arith))
 
 -- ---- products
+
+-- The factors of a product above zero are above zero.
+pub factors-positive : (a b : ℕ) → 0 < a * b → (0 < a) × (0 < b)
+factors-positive zero b l = absurd (omega arith)
+factors-positive (suc a) zero l = absurd (omega arith)
+factors-positive (suc a) (suc b) l = (omega arith, omega arith)
 
 pub product-next : (n : ℕ) (f : ℕ → ℕ) → product (suc n) f ≡ product n f * f n
 unfolding product

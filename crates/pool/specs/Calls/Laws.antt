@@ -64,12 +64,12 @@ module _ {off : Fraction} {r : Chances} {low : ℕ → Kept} where
   row-once same one other = rw (one .units-are, other .units-are, same) refl
 
 module _ {r : Chances} {c : Side → ℕ → Kept} where
-  pub reply-refused : {g refusal : ℕ} {ts : List Tranche} {losses : List LossAnswer} → (refusal ≡ 0 → ⊥) → losses ≡ replicate tranchePlaces untouched
-      → RepliesLosses g r c ts refusal losses
+  pub reply-refused : {g p refusal : ℕ} {ts : List Tranche} {losses : List LossAnswer} → (refusal ≡ 0 → ⊥) → losses ≡ replicate tranchePlaces untouched
+      → RepliesLosses g p r c ts refusal losses
   reply-refused some are = record { losses-are = are ∙ losses-untouched _ _ _ _ some; holds-losses = λ none. absurd (some none) }
 
-  pub reply-answered : {g : ℕ} {ts : List Tranche} {losses : List LossAnswer} → losses ≡ trancheLosses (r .assets) c ts → HoldsLosses g r c ts losses
-      → RepliesLosses g r c ts 0 losses
+  pub reply-answered : {g p : ℕ} {ts : List Tranche} {losses : List LossAnswer} → losses ≡ trancheLosses (r .assets) c ts → HoldsLosses g p r c ts losses
+      → RepliesLosses g p r c ts 0 losses
   unfolding lossesAfter
   reply-answered are holds = record { losses-are = are; holds-losses = λ _. holds }
 
@@ -81,8 +81,8 @@ module _ {r : Chances} {c : Side → ℕ → Kept} where
   layer-replied is holds = record { loss-is = is; holds-loss = λ _. holds }
 
   -- The losses depend on the tranches within the count alone.
-  pub reply-once : {f g refusal refusal′ : ℕ} {ts ts′ : List Tranche} {losses losses′ : List LossAnswer} → ts ≡ ts′ → refusal ≡ refusal′
-      → RepliesLosses f r c ts refusal losses → RepliesLosses g r c ts′ refusal′ losses′ → losses ≡ losses′
+  pub reply-once : {f g p refusal refusal′ : ℕ} {ts ts′ : List Tranche} {losses losses′ : List LossAnswer} → ts ≡ ts′ → refusal ≡ refusal′
+      → RepliesLosses f p r c ts refusal losses → RepliesLosses g p r c ts′ refusal′ losses′ → losses ≡ losses′
   reply-once alike same one other = rw (one .losses-are, other .losses-are, same, alike) refl
 
 -- ---- for the pools of the calls

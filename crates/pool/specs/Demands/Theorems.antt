@@ -5,38 +5,43 @@ use mathlib.Core.Path.{_≡_, refl, sym, ap, subst, _∙_}
 use mathlib.Core.Logic.{_⊎_, inl, inr}
 use mathlib.Core.List.{List}
 use native.Mathlib.Omega.{arith}
+use native.Mathlib.Bridge.{le-prop}
+use native.Mathlib.Decide.{decLe}
 use lib.Dec.{lit<, lit≤}
-use lib.ListN.{length, getD, take, drop, length-take, length-map, getD-replicate, List·getD-map}
+use lib.ListN.{length, getD, take, drop, length-take, length-map, getD-replicate, List·getD-map, List·getD-eq-default}
 use lib.IntN.{ℤ}
-use lib.Seq.{getD-take}
+use lib.Seq.{length-take-le, getD-take}
 use lib.Ieee.{Float}
 use Rattle.model.specs.Number.{triangle}
 use Rattle.model.specs.Number.Laws.{triangle-closed}
-use Rattle.model.specs.Fraction.{Fraction, Same, AtMost, integer, whole, over}
-use Rattle.model.specs.Fraction.Laws.{same-refl}
-use Rattle.model.specs.Chances.{Chances, chance}
+use Rattle.model.specs.Fraction.{Fraction, Same, AtMost, integer, whole, complement, over}
+use Rattle.model.specs.Fraction.Laws.{same-refl, same-sym, same-trans, times-same, fraction-sum-same}
+use Rattle.model.specs.Chances.{Chances, chance, expectedLoss}
 use Rattle.model.specs.Chances.Laws.{layer-tranche, layer-tranche-wide}
+use Rattle.model.specs.Touching.{Touching, totalLoss, poolLoss}
 use Rattle.model.specs.CorrelatedBinomial.{defaults}
 use Rattle.model.specs.CorrelatedBinomial.Theorems.{defaults-layer}
 use Rattle.kept.specs.declared.Kept.{Kept}
 use Rattle.kept.specs.declared.Side.{Side}
 use Rattle.kept.specs.declared.Side.the-variants.{Low, High}
-use Rattle.kept.specs.Rounding.{value, nought}
+use Rattle.kept.specs.Rounding.{OnSide, value, nought}
+use Rattle.kept.specs.Rounding.Leading.{side-same}
 use Rattle.kept.specs.Binary64.{leastShown, IsBinary64}
+use Rattle.kept.specs.Binary64.Laws.{exact-value}
 use Rattle.steps.specs.CorrelatedBinomial.Rows.{keptRow}
 use Rattle.steps.specs.Column.{unitsOfCertainty, exactUnits, half, printedTail, tenths}
 use Rattle.steps.specs.Column.Laws.{in-units-at-most, in-units-next, within-weaken}
 use Rattle.steps.specs.Enclosure.{Enclosed}
 use Rattle.steps.specs.declared.Tranche.{Tranche}
-use Rattle.steps.specs.Loss.{untouched, raisedToShown, Says}
-use Rattle.steps.specs.Tranches.{tranchePlaces}
+use Rattle.steps.specs.Loss.{untouched, raisedToShown, carried, Says}
+use Rattle.steps.specs.Tranches.{tranchePlaces, trancheAt, recoveries, lowers, uppers, TranchesTouch, exactTotal, boundTotal, carriedTotal}
 use Rattle.steps.specs.Tranches.Laws.{answer-length, losses-untouched}
 use Rattle.steps.specs.Layers.Laws.{layer-untouched}
 use Rattle.steps.specs.Loss.Laws.{raised-greater, least-shown-value}
 use Rattle.steps.specs.Inputs.{upTo, largestPool, finePool, distanceFor, tenthsFor, LayerInRange}
 use Rattle.steps.specs.Inputs.Laws.{up-to-both}
-use Rattle.steps.specs.Promises.{HoldsSteps, HoldsColumn, HoldsLoss, HoldsTranche, HoldsLayer}
-use Rattle.steps.specs.Chances.{keptTail}
+use Rattle.steps.specs.Promises.{HoldsSteps, HoldsColumn, HoldsLoss, HoldsTranche, HoldsLosses, HoldsLayer}
+use Rattle.steps.specs.Chances.{keptTail, keptLoss}
 use Rattle.expected_losses.specs.Loss.{lossOf, lossesIn}
 use Rattle.expected_losses.specs.Loss.Laws.{one-loss}
 use Rattle.working.specs.Slices.{overwritten, entriesAfter, numberAt}
@@ -55,7 +60,7 @@ use Rattle.store.specs.Stores.{Store, store, lengths, sideOf, place, storeAfter
 use Rattle.store.specs.Stores.Laws.{store-untouched}
 use Rattle.store.specs.Calls.{Fills, fillRefusal, HandsRow, rowRefusal}
 use Rattle.pool.specs.Calls.{columnRefusal, Prints, lossRefusal, RepliesLosses, Replies, layerRefusal, LayerReplies}
-use Rattle.pool.specs.Demands.{keptZero, partsFor, BoundDemands, StepsDemands, oneHalf, PrintedDemands, oneAndAHalf, unitsOff, Demand3Column, Slices, significandsOn, lent, numberOn, lengthsOf, from, TableDemands, StoreDemands, edge, BitsDemands, LossDemands, AnswerDemands, TrancheDemands, lossAt, LossesDemands}
+use Rattle.pool.specs.Demands.{keptZero, partsFor, BoundDemands, StepsDemands, oneHalf, PrintedDemands, oneAndAHalf, unitsOff, Demand3Column, Slices, significandsOn, lent, numberOn, lengthsOf, from, TableDemands, StoreDemands, edge, BitsDemands, LossDemands, AnswerDemands, TrancheDemands, givenAt, lossAt, Touch, Carries, CarriesTwo, lossOfPool, addedUp, SharedDemands, LossesDemands}
 use Rattle.pool.specs.Demands.{FillDemands, RowDemands, EntriesDemands, ColumnDemandsBy, ColumnDemands, TranchesDemandsBy, TranchesDemands, LayerLossDemands, LayerDemands}
 
 -- The four slices of a store.
@@ -277,11 +282,123 @@ tranche-meets : {parts : ℕ} {r : Chances} {c : Side → ℕ → Kept} (t : Tra
     → HoldsTranche parts r c t wide (lossOf loss) → TrancheDemands parts r c t loss
 tranche-meets t loss wide holds = record { wide = wide; answer = answer-meets loss holds }
 
+-- The numbers that a loss carries: there are two, and no others.
+carries-meet : (parts : ℕ) (low high : Kept) (v : Fraction) (loss : Loss) → Says parts low high v (lossOf loss) → CarriesTwo loss
+unfolding lossOf
+carries-meet parts low high v Untouched says = record { low = integer 0; high = integer 0; carries = (same-refl, same-refl) }
+carries-meet parts low high v (Faint number) says = record { low = integer 0; high = value (raisedToShown high); carries = (same-refl, says .is .exact) }
+carries-meet parts low high v (Shown bounds) says = record { low = value low; high = value high; carries = (says .lower-is .exact, says .upper-is .exact) }
+
+carries-same : (loss : Loss) (low high : Fraction) → Carries low high loss → Same (carried Low (lossOf loss)) low × Same (carried High (lossOf loss)) high
+unfolding lossOf carried
+carries-same Untouched low high carries = (same-sym (carries .0), same-sym (carries .1))
+carries-same (Faint number) low high carries = (same-sym (carries .0), exact-value number high (carries .1))
+carries-same (Shown bounds) low high carries = (exact-value (bounds .low) low (carries .0), exact-value (bounds .high) high (carries .1))
+
+-- What is made of a tranche and its width is the same for the same tranche.
+of-tranche : {X : Type 0} (n : ℕ) (f : (R A B : ℕ) → 0 < (B - A) * n → X) {t u : Tranche} → t ≡ u
+    → (wide : 0 < (t .upper - t .lower) * n) (wide′ : 0 < (u .upper - u .lower) * n) → f (t .recovery) (t .lower) (t .upper) wide ≡ f (u .recovery) (u .lower) (u .upper) wide′
+of-tranche n f {t} is wide wide′ =
+    subst (λ u. (wide′ : 0 < (u .upper - u .lower) * n) → f (t .recovery) (t .lower) (t .upper) wide ≡ f (u .recovery) (u .lower) (u .upper) wide′) is
+    (λ wide′. ap (f (t .recovery) (t .lower) (t .upper)) (le-prop wide wide′)) wide′
+
+equal-same : {x y : Fraction} → x ≡ y → Same x y
+equal-same is = rw is same-refl
+
+-- Tranches that touch.
+module _ (tranches : List Tranche) (count : ℕ) (touch : Touch tranches count) where
+  -- All of them are given.
+  touch-count : count ≤ length tranches
+  touch-count = elim (decLe count (length tranches)) [
+    | yes l ↦ l
+    | no more ↦
+        let past : length tranches ≤ count - 1 = omega arith in
+        absurd (omega (arith, sym (ap (λ t. t .upper) (List·getD-eq-default tranches (record { recovery = 0; lower = 0; upper = 0 }) past)) ∙ touch .last))
+  ]
+
+  some : 0 < count
+  some = omega (arith, touch .some)
+
+  as-many : length (take count tranches) ≡ count
+  as-many = length-take-le count tranches touch-count
+
+  at : (i : ℕ) → i < count → trancheAt (take count tranches) i ≡ givenAt tranches i
+  at i l = getD-take count tranches i _ l
+
+  recovery-at : (i : ℕ) → i < count → recoveries (take count tranches) i ≡ givenAt tranches i .recovery
+  recovery-at i l = ap (λ t. t .recovery) (at i l)
+
+  lower-at : (i : ℕ) → i < count → lowers (take count tranches) i ≡ givenAt tranches i .lower
+  lower-at i l = ap (λ t. t .lower) (at i l)
+
+  upper-at : (i : ℕ) → i < count → uppers (take count tranches) i ≡ givenAt tranches i .upper
+  upper-at i l = ap (λ t. t .upper) (at i l)
+
+  tranches-touch : TranchesTouch (take count tranches)
+  unfolding whole
+  tranches-touch =
+      let ts = take count tranches in
+      subst (λ m. Touching m (recoveries ts) (lowers ts) (uppers ts)) (sym as-many)
+      (record {
+        some = some;
+        first = lower-at 0 some ∙ touch .first;
+        next = λ i l. lower-at (suc i) l ∙ touch .next i l ∙ sym (upper-at i (omega arith));
+        last = upper-at (count - 1) (omega (arith, some)) ∙ touch .last;
+        one-recovery = λ i l. recovery-at i l ∙ touch .recoveries i l ∙ sym (recovery-at 0 some);
+      })
+
+  -- Losses that are the same add up to the same.
+  added-same : {x : (i : ℕ) → i < length (take count tranches) → Fraction} {y : (i : ℕ) → i < count → Fraction}
+      → ((i : ℕ) (l : i < length (take count tranches)) (h : i < count) → Same (x i l) (y i h))
+      → Same (totalLoss (length (take count tranches)) (lowers (take count tranches)) (uppers (take count tranches)) x) (addedUp tranches count y)
+  unfolding totalLoss
+  added-same same = fraction-sum-same as-many (λ i l h. rw (upper-at i h, lower-at i h) (times-same same-refl (same i l h)))
+
+  module _ {g p : ℕ} {r : Chances} {c : Side → ℕ → Kept} (answer : Answer) (holds : HoldsLosses g p r c (take count tranches) (lossesIn (answer .losses))) where
+    asked : (i : ℕ) → i < count → i < length (take count tranches)
+    asked i l = rw as-many l
+
+    amount : Same (poolLoss p (recoveries (take count tranches) 0)) (lossOfPool p (givenAt tranches 0 .recovery))
+    unfolding poolLoss lossOfPool over complement whole
+    amount = rw (recovery-at 0 some) (record { cross = refl })
+
+    widths : (i : ℕ) → i < count → 0 < (givenAt tranches i .upper - givenAt tranches i .lower) * r .assets
+    widths i l = rw (upper-at i l, lower-at i l) at (holds .wide i (asked i l))
+
+    bounds-meet-on : (side : Side) → OnSide side
+        (addedUp tranches count (λ i l. let t = givenAt tranches i in value (keptLoss side (r .assets) (c side) (t .recovery) (t .lower) (t .upper) (widths i l))))
+        (lossOfPool p (givenAt tranches 0 .recovery))
+    unfolding boundTotal
+    bounds-meet-on side =
+        side-same side (added-same (λ i l h. equal-same (ap value (of-tranche (r .assets) (keptLoss side (r .assets) (c side)) (at i h) _ _)))) amount
+        (holds .shares-out tranches-touch .bounds side)
+
+    carried-meet-on : (side : Side) (x : ℕ → Fraction) → ((i : ℕ) → i < count → Same (carried side (lossOf (lossAt answer i))) (x i))
+        → OnSide side (addedUp tranches count (λ i l. x i)) (lossOfPool p (givenAt tranches 0 .recovery))
+    unfolding carriedTotal
+    carried-meet-on side x same =
+        side-same side (added-same (λ i l h. rw (at-place (answer .losses) i) (same i h))) amount (holds .shares-out tranches-touch .carry side)
+
+    shared-meets : SharedDemands p r c tranches count answer
+    unfolding exactTotal
+    shared-meets = record {
+      wide = widths;
+      exact =
+          same-trans (same-sym (added-same (λ i l h. equal-same (of-tranche (r .assets) (expectedLoss r) (at i h) _ _))))
+          (same-trans (holds .shares-out tranches-touch .exact) amount);
+      low-bounds = bounds-meet-on Low;
+      high-bounds = bounds-meet-on High;
+      carried = λ i l.
+          carries-meet _ _ _ _ (lossAt answer i) (rw (at-place (answer .losses) i) at (holds .loss i (asked i l) (holds .wide i (asked i l)) .says));
+      low-carried = λ low high carries. carried-meet-on Low low (λ i l. carries-same _ _ _ (carries i l) .0);
+      high-carried = λ low high carries. carried-meet-on High high (λ i l. carries-same _ _ _ (carries i l) .1);
+    }
+
 -- The losses that any call answers, for eight tranches.
-pub losses-meet : {parts : ℕ} {r : Chances} {c : Side → ℕ → Kept} {tranches : List Tranche} {count : ℕ} (answer : Answer) → length tranches ≡ 8
-    → RepliesLosses parts r c (take count tranches) (answer .refusal) (lossesIn (answer .losses)) → LossesDemands parts r c tranches count answer
+pub losses-meet : {parts p : ℕ} {r : Chances} {c : Side → ℕ → Kept} {tranches : List Tranche} {count : ℕ} (answer : Answer) → length tranches ≡ 8
+    → RepliesLosses parts p r c (take count tranches) (answer .refusal) (lossesIn (answer .losses)) → LossesDemands parts p r c tranches count answer
 unfolding tranchePlaces lossesIn
-losses-meet {parts} {r} {c} {tranches} {count} answer eight replies = record {
+losses-meet {parts} {p} {r} {c} {tranches} {count} answer eight replies = record {
   eight =
       sym (length-map (answer .losses) (λ l. lossOf (l .loss))) ∙ ap length (replies .losses-are)
       ∙ answer-length (r .assets) c (take count tranches) (answer .refusal) (omega (arith, length-take count tranches, eight));
@@ -292,6 +409,7 @@ losses-meet {parts} {r} {c} {tranches} {count} answer eight replies = record {
       (tranche-meets _ _ (holds .wide i asked) (rw (at-place (answer .losses) i) at (holds .loss i asked (holds .wide i asked))));
   past = λ none i l m.
       untouched-there _ (sym (at-place (answer .losses) i) ∙ replies .holds-losses none .past i (omega (arith, length-take count tranches, eight)));
+  shared = λ none touch. shared-meets tranches count touch answer (replies .holds-losses none);
   refused = λ some i l.
       untouched-there _ (sym (at-place (answer .losses) i) ∙ rw (replies .losses-are ∙ sym (losses-untouched _ _ _ _ some)) (getD-replicate tranchePlaces i untouched untouched l));
 }

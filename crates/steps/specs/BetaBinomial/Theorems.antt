@@ -11,7 +11,7 @@ use Rattle.model.specs.Fraction.{integer, times, whole}
 use Rattle.model.specs.Chances.{share, chance}
 use Rattle.model.specs.ClosedForm.{defaultsBy}
 use Rattle.model.specs.BetaBinomial.{betaProbability, betaDefaults, quotientProduct, quotientDefaults}
-use Rattle.model.specs.BetaBinomial.Theorems.{products-at-most, beta-product, defaults-same, products-complete}
+use Rattle.model.specs.BetaBinomial.Theorems.{products-at-most, beta-product, defaults-same, products-complete, beta-mean}
 use Rattle.kept.specs.declared.Kept.{Kept}
 use Rattle.kept.specs.declared.Side.{Side}
 use Rattle.kept.specs.declared.Side.the-variants.{Low, High}
@@ -91,9 +91,9 @@ module _ {n p ρ : ℕ} (range : InRange largestPool n p ρ) (ρ<1 : ρ < whole)
 
   -- What holds of the losses that are answered.
   pub beta-answers : {ts : List Tranche} {losses : List LossAnswer} → 0 < n → TranchesInRange ts → losses ≡ trancheLosses n (λ side. keptBetaDefaults side n p ρ) ts
-      → HoldsLosses (distanceFor n) (betaDefaults n p ρ) (λ side. keptBetaDefaults side n p ρ) ts losses
+      → HoldsLosses (distanceFor n) p (betaDefaults n p ρ) (λ side. keptBetaDefaults side n p ρ) ts losses
   unfolding betaDefaults defaultsBy keptBetaDefaults
-  beta-answers = losses-hold beta-within beta-budget
+  beta-answers = losses-hold beta-within beta-budget (beta-mean p (range .probability) ρ<1 n)
 
   -- The printed tails are at most half a unit above the exact ones and less than 0.8 units below them; above 64 assets less than 1.3.
   pub beta-printed : PrintsTails half (tenths (tailTenths n)) (betaDefaults n p ρ) (printedTail n (keptBetaDefaults Low n p ρ))

@@ -16,7 +16,7 @@ use Rattle.model.specs.Fraction.{integer, plus, times, over, certainty}
 use Rattle.model.specs.Fraction.Laws.{same-sym, same-trans, whole-digits}
 use Rattle.model.specs.Chances.{share, chance}
 use Rattle.model.specs.CorrelatedBinomial.{probability, defaults}
-use Rattle.model.specs.CorrelatedBinomial.Theorems.{probability-at-most-one, defaults-complete, defaults-tails-total}
+use Rattle.model.specs.CorrelatedBinomial.Theorems.{probability-at-most-one, defaults-complete, defaults-mean, defaults-tails-total}
 use Rattle.kept.specs.declared.Kept.{Kept}
 use Rattle.kept.specs.declared.Side.{Side}
 use Rattle.kept.specs.declared.Side.the-variants.{Low, High}
@@ -128,9 +128,9 @@ module _ {n p ρ : ℕ} where
 
       -- What holds of the losses of tranches that are answered, and of that of a layer.
       pub answers : {ts : List Tranche} {losses : List LossAnswer} → 0 < n → TranchesInRange ts → losses ≡ trancheLosses n (λ side. keptDefaults side n p ρ) ts
-          → HoldsLosses (g n) (defaults n p ρ) (λ side. keptDefaults side n p ρ) ts losses
+          → HoldsLosses (g n) p (defaults n p ρ) (λ side. keptDefaults side n p ρ) ts losses
       unfolding defaults keptDefaults poolBudget defaultsBudget
-      answers = losses-hold within (apart .budget (le-refl n))
+      answers = losses-hold within (apart .budget (le-refl n)) (defaults-mean p ρ (range .probability) (range .correlation) n)
 
       pub layer-answers : (i j : ℕ) → j ≤ n → {loss : LossAnswer} → loss ≡ lossOfLayer n (λ side. keptDefaults side n p ρ) i j
           → HoldsLayer (g n) (defaults n p ρ) (λ side. keptDefaults side n p ρ) i j loss

@@ -10,15 +10,18 @@ use native.Mathlib.Decide.{decLe}
 use borrow.Author.Tests.{lt-ltb, le-ltb, ne-eqb}
 use lib.Dec.{eqb, lit<, lit≤}
 use lib.IntN.{negsuc}
+use lib.Ieee.{Float}
 use Rattle.model.specs.Fraction.{Fraction, Same, AtMost, Less, integer, plus, times, certainty}
 use Rattle.model.specs.Fraction.Laws.{same-sym, at-most-of-same, at-most-of-less, at-most-trans, at-most-less-trans}
 use Rattle.kept.specs.declared.Kept.{Kept}
-use Rattle.kept.specs.Rounding.{IsKept, scaled, value, nought}
+use Rattle.kept.specs.declared.Side.{Side}
+use Rattle.kept.specs.declared.Side.the-variants.{Low, High}
+use Rattle.kept.specs.Rounding.{IsKept, OnSide, scaled, value, nought}
 use Rattle.kept.specs.Rounding.Powers.{scaled-shift}
-use Rattle.kept.specs.Binary64.{leastShown, belowShown, toBinary64, Shown}
-use Rattle.kept.specs.Binary64.Laws.{shown-binary64}
+use Rattle.kept.specs.Binary64.{leastShown, belowShown, toBinary64, IsBinary64, Shown, exactValue}
+use Rattle.kept.specs.Binary64.Laws.{shown-binary64, exact-value}
 use Rattle.steps.specs.Enclosure.{Enclosed}
-use Rattle.steps.specs.Loss.{untouched, faint, shown, keptLeastShown, raisedToShown, lossAnswer, Says}
+use Rattle.steps.specs.Loss.{LossAnswer, untouched, faint, shown, keptLeastShown, raisedToShown, lossAnswer, carried, Says}
 
 -- ---- 2^−800 as a kept number
 
@@ -131,3 +134,17 @@ answer-says {g} {low} {high} {v} positive kept-low kept-high enclosed most = eli
         })
       ]
 ]
+
+-- The f64 of a kept number has its value.
+binary64-value : {x : Kept} {r : Float} → IsBinary64 x r → Same (exactValue r) (value x)
+binary64-value {x} {r} is = exact-value r (value x) (is .exact)
+
+-- The number that it carries on a side is on that side of the exact loss.
+pub answer-carries : (side : Side) (g : ℕ) (low high : Kept) (v : Fraction) (answer : LossAnswer) → Says g low high v answer → OnSide side (carried side answer) v
+unfolding carried integer
+answer-carries Low g low high v untouched says = record { cross = omega arith }
+answer-carries High g low high v untouched says = at-most-of-same (says .exact-zero)
+answer-carries Low g low high v (faint number) says = record { cross = omega arith }
+answer-carries High g low high v (faint number) says = at-most-trans (says .from-exact) (at-most-of-same (same-sym (binary64-value (says .is))))
+answer-carries Low g low high v (shown lower upper) says = at-most-trans (at-most-of-same (binary64-value (says .lower-is))) (says .enclosed .from-below)
+answer-carries High g low high v (shown lower upper) says = at-most-trans (says .enclosed .from-above) (at-most-of-same (same-sym (binary64-value (says .upper-is))))

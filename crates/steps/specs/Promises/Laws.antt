@@ -5,18 +5,20 @@ use mathlib.Core.Path.{_≡_, sym, subst, _∙_}
 use mathlib.Core.List.{List}
 use native.Mathlib.Omega.{arith}
 use native.Mathlib.Nat.{le-refl, mul-le-mul-right}
-use lib.ListN.{getD}
+use lib.ListN.{length, getD}
 use lib.IntN.{ℤ, pos, +ℤ-invr}
 use Rattle.model.specs.Number.{choose}
 use Rattle.model.specs.Number.Laws.{sum-cong}
-use Rattle.model.specs.Fraction.{Fraction, Same, AtMost, integer, plus, times, certainty, whole}
+use Rattle.model.specs.Fraction.{Fraction, Same, AtMost, integer, plus, times, certainty, whole, over}
 use Rattle.model.specs.Fraction.Laws.{same-refl, same-sym, same-trans, times-same, at-most-refl, at-most-trans, less-at-most-trans, times-mono}
-use Rattle.model.specs.Chances.{Chances, SameChances, chance, tailsTotal}
+use Rattle.model.specs.Chances.{Chances, SameChances, chance, mean, tailsTotal}
 use Rattle.model.specs.Chances.Laws.{complete-same, tranche-wide, loss-at-most-one, layer-at-most-one}
+use Rattle.model.specs.Touching.Laws.{touching-losses}
 use Rattle.kept.specs.declared.Kept.{Kept}
 use Rattle.kept.specs.declared.Side.{Side}
 use Rattle.kept.specs.declared.Side.the-variants.{Low, High}
-use Rattle.kept.specs.Rounding.{IsKept, value}
+use Rattle.kept.specs.Rounding.{IsKept, OnSide, value}
+use Rattle.kept.specs.Rounding.Leading.{side-same}
 use Rattle.kept.specs.Accuracy.{precision, BudgetFor}
 use Rattle.kept.specs.Accuracy.Laws.{bound-same, budget-for-weaken}
 use Rattle.steps.specs.Budgets.{chanceBudget, tailBudget, lossBudget, layerBudget, Bounded, WithinBudget, WithinPlaces}
@@ -31,24 +33,42 @@ use Rattle.steps.specs.Shifts.Laws.{tails-near, tails-between, tails-tot
 use Rattle.steps.specs.Enclosure.{Enclosed}
 use Rattle.steps.specs.Exponents.{Ranged}
 use Rattle.steps.specs.Exponents.Laws.{bound-ranged, unscaled}
-use Rattle.steps.specs.Loss.{LossAnswer, lossAnswer}
-use Rattle.steps.specs.Loss.Laws.{answer-says}
+use Rattle.steps.specs.Loss.{LossAnswer, untouched, lossAnswer}
+use Rattle.steps.specs.Loss.Laws.{answer-says, answer-carries}
 use Rattle.steps.specs.declared.Tranche.{Tranche}
-use Rattle.steps.specs.Tranches.{trancheAt, TranchesInRange, trancheLosses}
-use Rattle.steps.specs.Tranches.Laws.{tranche-loss-is, losses-at, losses-past}
+use Rattle.steps.specs.Tranches.{trancheAt, lowers, uppers, TranchesInRange, TranchesTouch, TranchesWide, trancheLosses, exactTotal, boundTotal, carriedTotal}
+use Rattle.steps.specs.Tranches.Laws.{tranche-loss-is, losses-at, losses-past, total-on-side}
 use Rattle.steps.specs.Layers.{lossOfLayer}
 use Rattle.steps.specs.declared.Verdict.{Verdict}
 use Rattle.steps.specs.Claims.{RowPasses, verdictOn}
 use Rattle.steps.specs.Claims.Laws.{every-passes, near-passes, passed-near, nearest-near}
 use Rattle.steps.specs.Numbers.{StepNumber, of-chances, of-tails, of-losses, of-layers}
 use Rattle.steps.specs.Numbers.Laws.{chances-ranged, tails-ranged, losses-ranged, layers-ranged}
-use Rattle.steps.specs.Promises.{RowEnclosed, HoldsColumn, HoldsShifts, HoldsVerdict, HoldsLoss, HoldsLosses, HoldsLayer}
+use Rattle.steps.specs.Promises.{RowEnclosed, HoldsColumn, HoldsShifts, HoldsVerdict, HoldsLoss, HoldsTranche, SharesOut, HoldsLosses, HoldsLayer}
 
 -- A loss that is answered from two bounds which enclose an exact value of at most one.
 pub loss-holds : {g : ℕ} {bound : Side → Kept} {v : Fraction} {loss : LossAnswer} → 0 < g → ((side : Side) → IsKept (bound side)) → Enclosed g (bound Low) (bound High) v
     → AtMost v certainty → loss ≡ lossAnswer (bound Low) (bound High) → HoldsLoss g bound v loss
 loss-holds positive kept enclosed most is =
     record { answer-is = is; enclosed = enclosed; says = rw is (answer-says positive (kept Low) (kept High) enclosed most) }
+
+-- Its bound on a side is on that side of the exact value.
+bound-on-side : (side : Side) {g : ℕ} {bound : Side → Kept} {v : Fraction} {loss : LossAnswer} → HoldsLoss g bound v loss → OnSide side (value (bound side)) v
+bound-on-side Low holds = holds .enclosed .from-below
+bound-on-side High holds = holds .enclosed .from-above
+
+-- Touching tranches share out what the pool loses, from what holds of each loss.
+shared-out : {g p : ℕ} {r : Chances} {c : Side → ℕ → Kept} {ts : List Tranche} {losses : List LossAnswer} → TranchesTouch ts → (wide : TranchesWide (r .assets) ts)
+    → Same (mean r) (over (r .assets * p) 1) → ((i : ℕ) (l : i < length ts) → HoldsTranche g r c (trancheAt ts i) (wide i l) (getD losses i untouched))
+    → SharesOut p r c ts wide losses
+unfolding exactTotal boundTotal carriedTotal
+shared-out {r} {ts} touching wide mean-is holds =
+    let exact = touching-losses touching r wide _ mean-is in
+    record {
+      exact = exact;
+      bounds = λ side. side-same side same-refl exact (total-on-side side r ts wide _ (λ i l. bound-on-side side (holds i l)));
+      carry = λ side. side-same side same-refl exact (total-on-side side r ts wide _ (λ i l. answer-carries side _ _ _ _ _ (holds i l .says)));
+    }
 
 module _ {b : ℕ} {r : Chances} {v : ℕ → Fraction} {entry : Side → ℕ → Kept} (within : WithinBudget b r v entry) where
   abbrev kept : Side → ℕ → Kept
@@ -109,17 +129,22 @@ module _ {b : ℕ} {r : Chances} {v : ℕ → Fraction} {entry : Side → ℕ �
     layer-holds i j l =
         loss-holds (fine .positive) (λ side. layer-kept side (r .assets) (kept side) i j) (row-enclosed .layers i j l) (layer-at-most-one r (within .complete) i j)
 
-    -- The losses of tranches in range.
-    pub losses-hold : {ts : List Tranche} {losses : List LossAnswer} → 0 < r .assets → TranchesInRange ts
+    -- The losses of tranches in range, for a row whose mean is n × p.
+    pub losses-hold : {p : ℕ} {ts : List Tranche} {losses : List LossAnswer} → Same (mean r) (over (r .assets * p) 1) → 0 < r .assets → TranchesInRange ts
         → losses ≡ trancheLosses (r .assets) (λ side. keptChances side (r .assets) (entry side)) ts
-        → HoldsLosses g r (λ side. keptChances side (r .assets) (entry side)) ts losses
-    losses-hold {ts} not-empty tranches are = record {
-      wide = λ i l. tranche-wide not-empty (tranches .at i l .lower);
-      loss = λ i l wide.
-          loss-holds (fine .positive) (λ side. loss-kept side (r .assets) (kept side) _ _ _ wide) (row-enclosed .losses _ _ _ (tranches .at i l .upper) wide)
-          (loss-at-most-one r _ _ _ wide (within .complete)) (rw are (losses-at (r .assets) kept ts i l ∙ tranche-loss-is (r .assets) kept (trancheAt ts i) wide));
-      past = λ i l. rw are (losses-past (r .assets) kept ts i l);
-    }
+        → HoldsLosses g p r (λ side. keptChances side (r .assets) (entry side)) ts losses
+    losses-hold {p} {ts} {losses} mean-is not-empty tranches are =
+        let wide : TranchesWide (r .assets) ts = λ i l. tranche-wide not-empty (tranches .at i l .lower) in
+        let loss : (i : ℕ) → i < length ts → (wide : 0 < (uppers ts i - lowers ts i) * r .assets)
+        → HoldsTranche g r kept (trancheAt ts i) wide (getD losses i untouched) = λ i l wide.
+        loss-holds (fine .positive) (λ side. loss-kept side (r .assets) (kept side) _ _ _ wide) (row-enclosed .losses _ _ _ (tranches .at i l .upper) wide)
+        (loss-at-most-one r _ _ _ wide (within .complete)) (rw are (losses-at (r .assets) kept ts i l ∙ tranche-loss-is (r .assets) kept (trancheAt ts i) wide)) in
+        record {
+          wide = wide;
+          loss = loss;
+          past = λ i l. rw are (losses-past (r .assets) kept ts i l);
+          shares-out = λ touching. shared-out touching wide mean-is (λ i l. loss i l (wide i l));
+        }
 
 -- Rows printed from tails that are at most half a unit above the exact ones and less than the tenths of a tail below them.
 pub tails-column : {r : Chances} (low : ℕ → Kept) → PrintsTails half (tenths (tailTenths (r .assets))) r (printedTail (r .assets) low)

@@ -8,13 +8,18 @@ use native.Mathlib.Decide.{decLt}
 use native.Mathlib.Nat.{sub-zero, suc-sub-suc}
 use native.Mathlib.Omega.{arith}
 use lib.ListN.{length, getD, set, take, replicate, length-append, length-map, length-replicate}
+use Rattle.model.specs.Fraction.{Fraction}
+use Rattle.model.specs.Chances.{Chances, expectedLoss}
+use Rattle.model.specs.Touching.{totalLoss}
+use Rattle.model.specs.Touching.Laws.{total-mono}
 use Rattle.kept.specs.declared.Kept.{Kept}
 use Rattle.kept.specs.declared.Side.{Side}
 use Rattle.kept.specs.declared.Side.the-variants.{Low, High}
+use Rattle.kept.specs.Rounding.{OnSide}
 use Rattle.steps.specs.declared.Tranche.{Tranche}
 use Rattle.steps.specs.Chances.{keptLoss}
 use Rattle.steps.specs.Loss.{LossAnswer, untouched, lossAnswer}
-use Rattle.steps.specs.Tranches.{tranchePlaces, trancheAt, trancheLoss, trancheLosses, lossesAfter}
+use Rattle.steps.specs.Tranches.{tranchePlaces, trancheAt, recoveries, lowers, uppers, TranchesWide, trancheLoss, trancheLosses, lossesAfter, exactTotal}
 
 -- ---- a list that is filled up to a length
 
@@ -99,3 +104,13 @@ module _ (n : ℕ) (c : Side → ℕ → Kept) where
   pub losses-accepted : (ts : List Tranche) {refusal : ℕ} {losses : List LossAnswer} → refusal ≡ 0 → losses ≡ lossesAfter n c ts refusal → losses ≡ trancheLosses n c ts
   unfolding lossesAfter
   losses-accepted ts none are = are ∙ rw none refl
+
+-- ---- what tranches lose together
+
+-- Numbers that are each on a side of the exact loss add to one that is on that side of what the exact losses add to.
+pub total-on-side : (side : Side) (r : Chances) (ts : List Tranche) (wide : TranchesWide (r .assets) ts) (x : (i : ℕ) → i < length ts → Fraction)
+    → ((i : ℕ) (l : i < length ts) → OnSide side (x i l) (expectedLoss r (recoveries ts i) (lowers ts i) (uppers ts i) (wide i l)))
+    → OnSide side (totalLoss (length ts) (lowers ts) (uppers ts) x) (exactTotal r ts wide)
+unfolding exactTotal
+total-on-side Low r ts wide x = total-mono (length ts) (lowers ts) (uppers ts)
+total-on-side High r ts wide x = total-mono (length ts) (lowers ts) (uppers ts)

@@ -2,8 +2,8 @@
 -- Assumes nothing.
 use Prim.Native.Nat.{_-_, _<_}
 use borrow.Author.Needs.{needs}
-use Rattle.trial_checks.proofs.read_number.Statement.{statement}
-use Rattle.trial_checks.proofs.read_number.Tie as tie
+use Rattle.trial_support.proofs.read_number.Statement.{statement}
+use Rattle.trial_support.proofs.read_number.Tie as tie
 
 abbrev Inv-loop : tie.InvT-loop
 Inv-loop number₀ counter₀ number counter = number < 4294967296
