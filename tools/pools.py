@@ -238,6 +238,12 @@ def layer_refusal(n, p, rho, i, j, lengths):
     return first(pool_grounds(n, p, rho) + [(14, not 1 <= i <= j <= n)] + store_ground(n, lengths))
 
 
+def desk_grounds(n, p, rho, expected, k, ceiling, lengths):
+    """Of a read of row k, of the head of the store, and of the probability and the correlation that are expected of it."""
+    grounds = pool_grounds(n, p, rho) + store_ground(n, lengths)
+    return grounds + [(15, (p, rho) != expected), (9, k > n), (16, k > ceiling)]
+
+
 def beta_pool_grounds(n, p, rho):
     return pool_grounds(n, p, rho) + [(12, rho == WHOLE)]
 

@@ -45,6 +45,11 @@ def held(n, p, rho):
     return made(n, p, rho)
 
 
+def store_of(other):
+    """The slices of another pool's store, if there is one."""
+    return slices_of(made(*other)) if other else NO_SLICES
+
+
 def beyond(call=""):
     """The fewest assets that a call refuses by 1."""
     return (REPORT_POOL if call == "shifts" else LARGEST_POOL) + 1
@@ -59,25 +64,30 @@ def array_word(numbers, mark, lent, few, whole):
     """The checksum of an array that starts with these numbers, before the marks: of the few places, or of all where more are
     lent."""
     length = few if lent <= few else whole
-    return checksum(numbers + [mark] * (length - len(numbers)), signed=mark == INTEGER_MARK)
+    numbers = (numbers + [mark] * (length - len(numbers)))[:length]
+    return checksum([], numbers) if mark == INTEGER_MARK else checksum(numbers)
 
 
-def places(filled, side, part):
-    """The significands or the exponents of a store, in order."""
-    return [x[part] for row in filled[side][0] for x in row] if filled else []
+def slices_of(filled):
+    """The four slices of a store, or of none: the significands of either side, then the exponents."""
+    return [[x[part] for row in rows for x in row] for part in (0, 1) for rows, _ in filled or [([], [])] * 2]
 
 
-def store_words(filled, lengths, before=()):
+NO_SLICES = slices_of([])
+
+
+def after_fill(filled, before):
+    """What the arrays start with, after what they started with before."""
+    return [new + old[len(new):] for new, old in zip(slices_of(filled), before)]
+
+
+def store_words(filled, lengths, before=NO_SLICES):
     """The checksums of the four arrays: what was filled stands before what they held before, and that before the marks."""
-    words = ["slices"]
-    for part, mark in enumerate((MARK, INTEGER_MARK)):
-        for side in (0, 1):
-            new, old = places(filled, side, part), places(before, side, part)
-            words.append(array_word(new + old[len(new):], mark, lengths[2 * part + side], PLACES, LARGE_PLACES))
-    return words
+    arrays = zip(after_fill(filled, before), [MARK] * 2 + [INTEGER_MARK] * 2, lengths)
+    return ["slices", *(array_word(*array, PLACES, LARGE_PLACES) for array in arrays)]
 
 
-def fill_words(n, p, rho, lengths, before=()):
+def fill_words(n, p, rho, lengths, before=NO_SLICES):
     refusal = fill_refusal(n, p, rho, lengths)
     return ["refusal", refusal, *store_words([] if refusal else held(n, p, rho), lengths, before)]
 
@@ -133,7 +143,7 @@ def row_words(refusal, rows, units):
     return ["refusal", refusal, *rows, "rows", array_word(rows, MARK, units, ROWS, LARGE_ROWS)]
 
 
-def column_words(n, p, rho, lengths, units, before=(), screen=False):
+def column_words(n, p, rho, lengths, units, before=NO_SLICES, screen=False):
     refusal = column_refusal(n, p, rho, lengths, units, screen)
     if screen:
         hold_screen(refusal, n, p, rho)
@@ -145,7 +155,7 @@ def column_words(n, p, rho, lengths, units, before=(), screen=False):
     return row_words(refusal, rows, units) + store_words(filled, lengths, before)
 
 
-def shift_words(n, p, rho, lengths, entries, before=()):
+def shift_words(n, p, rho, lengths, entries, before=NO_SLICES):
     refusal = shift_refusal(n, p, rho, lengths, entries)
     filled = [] if refusal else held(n, p, rho)
     listed = [] if refusal else shifts(filled[0][1], made(n, p, 0)[0][1])
@@ -180,12 +190,12 @@ def listed(call, n, p, rho, lengths=None, entries=ROWS):
 
 def fill_over(other, n, p, rho):
     """A fill of slices that hold another pool's store."""
-    line("over", *other, "fill", n, p, rho, *fill_words(n, p, rho, ample(n, other=other), made(*other)))
+    line("over", *other, "fill", n, p, rho, *fill_words(n, p, rho, ample(n, other=other), store_of(other)))
 
 
 def listed_over(call, other, n, p, rho, entries=ROWS):
     """The same of a call that leaves a list."""
-    line("over", *other, call, n, p, rho, *LISTS[call](n, p, rho, ample(n, call, other), entries, made(*other)))
+    line("over", *other, call, n, p, rho, *LISTS[call](n, p, rho, ample(n, call, other), entries, store_of(other)))
 
 
 def lengths_of(exact):
@@ -281,16 +291,18 @@ def losses_of(library, n, p, rho, tranches, count, lengths):
     return refusal, [] if refusal else [held_loss(library, n, p, rho, *tranche) for tranche in tranches[:count]]
 
 
+def loss_words(library, pool, refusal, losses, lengths, before=NO_SLICES):
+    words = ["refusal", refusal] if refusal else [word for answer in losses for word in answer]
+    return words if library == "beta" else words + store_words([] if refusal else held(*pool), lengths, before)
+
+
 def loss_line(name, library, pool, given, refusal, losses, lengths, other):
     """A call for losses, on marked slices or on slices that hold another pool's store. That of the beta-binomial is lent no
     store."""
     words = ["over", *other] if other else []
     words += [library] * (library != "") + [name, *pool, *given]
     words += ["lengths", *lengths] if library != "beta" and not other else []
-    words += ["refusal", refusal] if refusal else [word for answer in losses for word in answer]
-    if library != "beta":
-        words += store_words([] if refusal else held(*pool), lengths, made(*other) if other else ())
-    line(*words)
+    line(*words, *loss_words(library, pool, refusal, losses, lengths, store_of(other)))
 
 
 def losses_line(name, library, pool, given, tranches, count, lengths, other):
@@ -307,12 +319,16 @@ def tranche_loss(n, p, rho, recovery, lower, upper, lengths=None, library="", ot
     losses_line("loss", library, (n, p, rho), [recovery, "tranche", lower, upper], tranches, 1, lengths, other)
 
 
-def tranche_losses(library, pool, tranches, count, lengths=None, other=()):
-    """The losses of several tranches. Gives what the call answers."""
+def tranche_words(tranches, count):
+    """What a loss call of several tranches was given."""
     assert len(tranches) == TRANCHES
     within, past = ([number for tranche in part for number in tranche] for part in (tranches[:count], tranches[count:]))
-    given = ["count", count, "tranches", *within, *["unread"] * (past != []), *past]
-    return losses_line("losses", library, pool, given, tranches, count, lengths, other)
+    return ["count", count, "tranches", *within, *["unread"] * (past != []), *past]
+
+
+def tranche_losses(library, pool, tranches, count, lengths=None, other=()):
+    """The losses of several tranches. Gives what the call answers."""
+    return losses_line("losses", library, pool, tranche_words(tranches, count), tranches, count, lengths, other)
 
 
 def held_layer(n, p, rho, i, j):
@@ -321,11 +337,16 @@ def held_layer(n, p, rho, i, j):
     return loss_answer(*(layer(side, chances, i, j) for side, (_, chances) in enumerate(made(n, p, rho))))
 
 
+def layer_of(pool, i, j, lengths):
+    """The refusal of a layer call, and the loss where it is 0."""
+    refusal = layer_refusal(*pool, i, j, lengths)
+    return refusal, [] if refusal else [held_layer(*pool, i, j)]
+
+
 def layer_loss(pool, i, j, lengths=None, other=()):
     """The loss of a layer. Gives what the call answers."""
     lengths = lengths or ample(pool[0], other=other)
-    refusal = layer_refusal(*pool, i, j, lengths)
-    losses = [] if refusal else [held_layer(*pool, i, j)]
+    refusal, losses = layer_of(pool, i, j, lengths)
     loss_line("layer", "", pool, [i, j], refusal, losses, lengths, other)
     return refusal, losses
 
@@ -337,13 +358,22 @@ def verdict(n, p, rho, claims):
     return ("passed",) if row is None else ("fails", row)
 
 
+def checked(pool, claims, lengths):
+    """What a check answers."""
+    refusal = column_refusal(*pool, lengths, len(claims))
+    return ("refusal", refusal) if refusal else verdict(*pool, claims)
+
+
+def check_words(pool, claims, answer, lengths, before=NO_SLICES):
+    filled = [] if answer[0] == "refusal" else held(*pool)
+    return [*answer, "claims", len(claims), checksum(claims), *store_words(filled, lengths, before)]
+
+
 def check(pool, claims, lengths, other=()):
     """A check of a claimed column. Gives what it answers."""
-    refusal = column_refusal(*pool, lengths, len(claims))
-    answer = ("refusal", refusal) if refusal else verdict(*pool, claims)
+    answer = checked(pool, claims, lengths)
     given = ["over", *other, "check", *pool] if other else ["check", *pool, "lengths", *lengths]
-    words = store_words([] if refusal else held(*pool), lengths, made(*other) if other else ())
-    line(*given, *answer, "claims", len(claims), checksum(claims), *words)
+    line(*given, *check_words(pool, claims, answer, lengths, store_of(other)))
     return answer
 
 

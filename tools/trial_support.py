@@ -15,11 +15,11 @@ def following(word, count=1):
     return word
 
 
-def checksum(numbers, signed=False):
+def checksum(naturals, integers=()):
     """A word that depends on every number and on its place."""
     word = SEED
-    for n in numbers:
-        if signed:
-            word = following(word ^ (n < 0))
-        word = following(word ^ abs(n))
+    for n in naturals:
+        word = following(word ^ n)
+    for n in integers:
+        word = following(following(word ^ (n < 0)) ^ abs(n))
     return f"{word:016x}"

@@ -60,8 +60,8 @@ static void fill_call(Random &random, Tally &tally) {
     LentStore store(random, places(pool.assets));
     Kept low[ROWS], high[ROWS];
     uint32_t refusal = first_of({pool_refusal(LIBRARY, pool), room_refusal(LIBRARY, pool, store)});
-    if (refusal == 0) fill(pool, store.wanted(), low, high);
-    bool same = trial_fill(POOL_OF(pool), SLICES_OF(store)) == refusal;
+    if (refusal == 0) fill(pool, store.wanted(pool), low, high);
+    bool same = trial_fill(POOL_OF(pool), HEAD_OF(store), SLICES_OF(store)) == refusal;
     conclude(tally, LIBRARY, pool, store, refusal, same, [](const Exact &) { return true; });
 }
 
@@ -95,13 +95,13 @@ static void row_refusal_call(Random &random, Tally &tally) {
 
 static void want_column(Library library, Pool pool, LentStore &store, Lent<uint32_t> &units) {
     if (library == BETA_BINOMIAL) beta_column(pool, units.wanted_data());
-    else column(pool, store.wanted(), units.wanted_data());
+    else column(pool, store.wanted(pool), units.wanted_data());
 }
 
 static uint32_t call_column(Library library, Pool pool, LentStore &store, Lent<uint32_t> &units) {
     if (library == BETA_BINOMIAL) return trial_beta_column(POOL_OF(pool), SLICE_OF(units));
     auto call = library == SCREEN ? trial_screen_column : trial_column;
-    return call(POOL_OF(pool), SLICES_OF(store), SLICE_OF(units));
+    return call(POOL_OF(pool), HEAD_OF(store), SLICES_OF(store), SLICE_OF(units));
 }
 
 template <Library library>
@@ -122,9 +122,9 @@ static void shift_call(Random &random, Tally &tally) {
     Lent<int32_t> shifts(random, slice_length(random, measured(pool.assets) + 1));
     uint32_t refusal = first_of({assets_ground(pool.assets, REPORT_POOL), pool_refusal(LIBRARY, pool),
                                  room_refusal(LIBRARY, pool, store), list_ground(10, pool.assets, shifts.length)});
-    if (refusal == 0) shift_list(pool, store.wanted(), shifts.wanted_data());
-    bool same = trial_shift_list(POOL_OF(pool), SLICES_OF(store), SLICE_OF(shifts)) == refusal && shifts.as_wanted();
-    conclude(tally, LIBRARY, pool, store, refusal, same, [&](const Exact &exact) {
+    if (refusal == 0) shift_list(pool, store.wanted(pool), shifts.wanted_data());
+    bool same = trial_shift_list(POOL_OF(pool), HEAD_OF(store), SLICES_OF(store), SLICE_OF(shifts)) == refusal;
+    conclude(tally, LIBRARY, pool, store, refusal, same && shifts.as_wanted(), [&](const Exact &exact) {
         return shifts_hold(exact, exact_model({pool.assets, pool.probability, 0}, MOODY), shifts.data());
     });
 }
@@ -154,14 +154,14 @@ static void want_answers(Tally &tally, size_t count, const Bounds *bounds, LentA
 
 static void want_losses(Library library, Pool pool, LentStore &store, const TrancheInputs &given, Bounds *bounds) {
     if (library == BETA_BINOMIAL) beta_losses(pool, given.tranches, given.count, bounds);
-    else losses(pool, store.wanted(), given.tranches, given.count, bounds);
+    else losses(pool, store.wanted(pool), given.tranches, given.count, bounds);
 }
 
 static uint32_t call_losses(Library library, Pool pool, LentStore &store, TrancheInputs &given, LentAnswer &answer) {
     const uint32_t *records = given.records.data();
     if (library == BETA_BINOMIAL) return trial_beta_losses(POOL_OF(pool), records, given.count, ARRAYS_OF(answer));
     auto call = library == SCREEN ? trial_screen_losses : trial_losses;
-    return call(POOL_OF(pool), records, given.count, SLICES_OF(store), ARRAYS_OF(answer));
+    return call(POOL_OF(pool), HEAD_OF(store), records, given.count, SLICES_OF(store), ARRAYS_OF(answer));
 }
 
 static bool losses_hold(uint32_t parts, const Exact &exact, const TrancheInputs &given, const Bounds *bounds) {
@@ -204,10 +204,10 @@ static void layer_call(Random &random, Tally &tally) {
     Bounds bounds;
     uint32_t refusal = first_of({pool_refusal(LIBRARY, pool), layer_ground(pool.assets, layer),
                                  room_refusal(LIBRARY, pool, store)});
-    if (refusal == 0) bounds = layer_loss(pool, store.wanted(), layer);
+    if (refusal == 0) bounds = layer_loss(pool, store.wanted(pool), layer);
     want_answers(tally, refusal == 0, &bounds, answer);
-    bool same = trial_layer_loss(POOL_OF(pool), layer.i, layer.j, SLICES_OF(store), ARRAYS_OF(answer)) == refusal;
-    conclude(tally, LIBRARY, pool, store, refusal, same && answer.as_wanted(), [&](const Exact &exact) {
+    uint32_t given = trial_layer_loss(POOL_OF(pool), HEAD_OF(store), layer.i, layer.j, SLICES_OF(store), ARRAYS_OF(answer));
+    conclude(tally, LIBRARY, pool, store, refusal, given == refusal && answer.as_wanted(), [&](const Exact &exact) {
         return layer_holds(library_parts(pool.assets), exact, layer, bounds);
     });
 }
@@ -220,13 +220,53 @@ static void check_call(Random &random, Tally &tally) {
     uint32_t refusal = first_of({pool_refusal(LIBRARY, pool), room_refusal(LIBRARY, pool, store),
                                  list_ground(8, pool.assets, claims.length)});
     Verdict wanted{REFUSED, refusal}, given;
-    if (refusal == 0) wanted = check_column(pool, store.wanted(), claims.data());
-    given.kind = trial_check_column(POOL_OF(pool), SLICE_OF(claims), SLICES_OF(store), &given.number);
+    if (refusal == 0) wanted = check_column(pool, store.wanted(pool), claims.data());
+    given.kind = trial_check_column(POOL_OF(pool), HEAD_OF(store), SLICE_OF(claims), SLICES_OF(store), &given.number);
     tally.verdicts[wanted.kind]++;
     bool same = given.kind == wanted.kind && given.number == wanted.number && claims.as_wanted();
     conclude(tally, LIBRARY, pool, store, refusal, same && (wanted.kind != FAILS || !right), [&](const Exact &exact) {
         return verdict_holds(library_parts(pool.assets), exact, claims.data(), wanted);
     });
+}
+
+// Fills the store for a pool as the steps do, where it has room.
+static void put_store(Pool pool, LentStore &store) {
+    Kept low[ROWS], high[ROWS];
+    if (pool_refusal(LIBRARY, pool) || room_refusal(LIBRARY, pool, store)) return;
+    fill(pool, store.held(), low, high);
+    fill(pool, store.wanted(pool), low, high);
+    store.head.held = store.head.wanted;
+}
+
+struct ReadInputs {
+    Pool head;
+    Request request;
+    uint32_t ceiling;
+    LentStore store;
+    uint32_t refusal;
+
+    explicit ReadInputs(Random &random)
+        : head(random_pool(random)), request{often_same(random, head.probability), often_same(random, head.correlation),
+                                             random_row(random, measured(head.assets))},
+          ceiling(random_ceiling(random, request.row)), store(random, places(head.assets)),
+          refusal(first_of({assets_ground(head.assets, LARGEST_POOL), pool_ground(head), room_refusal(LIBRARY, head, store),
+                            expected_ground(head, request), row_ground(head.assets, request.row),
+                            ceiling_ground(ceiling, request.row)})) {}
+};
+
+// About half of the stores hold random words, a few are of another pool than the head.
+static void read_call(Random &random, Tally &tally) {
+    ReadInputs given(random);
+    LentStore &store = given.store;
+    Request request = given.request;
+    LentRow row(random);
+    if (random.percent(50)) put_store(random.percent(70) ? given.head : random_pool(random), store);
+    size_t count = given.refusal ? 0 : request.row + 1;
+    for (size_t j = 0; j < ROWS; j++)
+        row.want(j, j < count ? entry_at(store.held(), row_start(request.row) + j) : Bounds{ZERO, ZERO});
+    uint32_t answer = trial_read(POOL_OF(given.head), request.probability, request.correlation, request.row, given.ceiling,
+                                 SLICES_OF(store), ROW_OF(row));
+    tally.count(given.head, given.refusal, answer == given.refusal && row.as_wanted() && store.as_wanted());
 }
 
 static const struct {
@@ -246,6 +286,7 @@ static const struct {
     {"reply_to_start", reply_call},
     {"layer_loss", layer_call},
     {"check_column", check_call},
+    {"desk read", read_call},
 };
 
 // The number of calls of each kind, the seed, and the only kind to be tried, if there is one.

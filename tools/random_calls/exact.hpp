@@ -120,8 +120,7 @@ inline bool rows_hold(uint32_t parts, const Exact &exact, const Kept *low_row, c
 inline bool store_holds(uint32_t finest, const Exact &exact, Store store) {
     for (uint32_t k = 0; k <= exact.n; k++)
         for (size_t place = row_start(k); place < row_start(k + 1); place++) {
-            Bounds bounds{{store.low_significands[place], store.low_exponents[place]},
-                          {store.high_significands[place], store.high_exponents[place]}};
+            Bounds bounds = entry_at(store, place);
             uint32_t parts = std::max(finest, library_parts(k));
             if (!encloses(parts, least_exponent(exact.n), bounds, exact.entries[place], exact.whole)) return false;
         }

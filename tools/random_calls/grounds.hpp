@@ -40,3 +40,10 @@ inline uint32_t store_ground(uint32_t n, size_t shortest) {
 inline uint32_t list_ground(uint32_t number, uint32_t n, size_t length) { return length < uint64_t(n) + 1 ? number : 0; }
 
 inline uint32_t row_ground(uint32_t n, uint32_t k) { return k > n ? 9 : 0; }
+
+// The probability or the correlation of a head is not what a desk expects.
+inline uint32_t expected_ground(Pool head, Request request) {
+    return head.probability == request.probability && head.correlation == request.correlation ? 0 : 15;
+}
+
+inline uint32_t ceiling_ground(uint32_t ceiling, uint32_t k) { return k > ceiling ? 16 : 0; }

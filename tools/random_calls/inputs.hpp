@@ -1,5 +1,6 @@
 // Random inputs from a seed, with the edges of every range among them.
 #pragma once
+#include <algorithm>
 #include <initializer_list>
 #include <set>
 #include <string>
@@ -85,6 +86,26 @@ inline Layer random_layer(Random &random, uint32_t n) {
     if (random.percent(3)) i = random.percent(50) ? 0 : too_large(random, j + 1);
     if (random.percent(3)) j = random.percent(50) ? 0 : too_large(random, n + 1);
     return {i, j};
+}
+
+// Most often itself, else a neighbour or another.
+inline uint32_t often_same(Random &random, uint32_t number) {
+    if (random.percent(92)) return number;
+    uint32_t other = basis_points(random), any = uint32_t(random.word());
+    return random.among({number + 1, number - 1, other, any});
+}
+
+// Most often a row that a head of n assets, at most 110, has.
+inline uint32_t random_row(Random &random, uint32_t n) {
+    if (random.percent(20)) return random.percent(50) ? 0 : n;
+    return random.percent(92) ? random.below(n + 1) : too_large(random, n + 1);
+}
+
+inline uint32_t random_ceiling(Random &random, uint32_t row) {
+    uint32_t kind = random.below(100), above = row < UINT32_MAX, below = row > 0;
+    if (kind < 30) return row;
+    if (kind < 50) return random.among({row + above, LARGEST_POOL, UINT32_MAX, too_large(random, row / 2 + 1)});
+    return kind < 90 ? std::max(row, random.below(110)) : random.among({0, row - below, random.below(row / 2 + 1)});
 }
 
 // How many places a slice has that needs so many.

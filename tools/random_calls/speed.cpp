@@ -12,6 +12,7 @@ static constexpr size_t PLACES = LARGEST_POOL * (LARGEST_POOL + 3) / 2 + 1;
 
 // All that a call writes and answers.
 struct Arrays {
+    uint32_t head[3];
     uint32_t low_significands[PLACES], high_significands[PLACES];
     int32_t low_exponents[PLACES], high_exponents[PLACES];
     uint32_t units[ROWS];
@@ -19,6 +20,8 @@ struct Arrays {
     uint32_t kinds[TRANCHES];
     double firsts[TRANCHES], seconds[TRANCHES];
     Verdict verdict;
+    uint32_t low_row_significands[ROWS], high_row_significands[ROWS];
+    int32_t low_row_exponents[ROWS], high_row_exponents[ROWS];
 
     Store store() { return {low_significands, high_significands, low_exponents, high_exponents}; }
 };
@@ -36,26 +39,37 @@ static uint32_t claims[ROWS];
 #define SLICES_OF(arrays) \
     arrays.low_significands, PLACES, arrays.high_significands, PLACES, arrays.low_exponents, PLACES, arrays.high_exponents, PLACES
 
-static void library_fill(Pool pool) { trial_fill(POOL_OF(pool), SLICES_OF(by_library)); }
+static void library_fill(Pool pool) { trial_fill(POOL_OF(pool), by_library.head, SLICES_OF(by_library)); }
 
-static void library_column(Pool pool) { trial_column(POOL_OF(pool), SLICES_OF(by_library), by_library.units, ROWS); }
-
-static void library_losses(Pool pool) {
-    trial_losses(POOL_OF(pool), &tranches[0].recovery, TRANCHES, SLICES_OF(by_library), by_library.kinds, by_library.firsts,
-                 by_library.seconds);
+static void library_column(Pool pool) {
+    trial_column(POOL_OF(pool), by_library.head, SLICES_OF(by_library), by_library.units, ROWS);
 }
 
-static void library_shifts(Pool pool) { trial_shift_list(POOL_OF(pool), SLICES_OF(by_library), by_library.shifts, ROWS); }
+static void library_losses(Pool pool) {
+    trial_losses(POOL_OF(pool), by_library.head, &tranches[0].recovery, TRANCHES, SLICES_OF(by_library), by_library.kinds,
+                 by_library.firsts, by_library.seconds);
+}
+
+static void library_shifts(Pool pool) {
+    trial_shift_list(POOL_OF(pool), by_library.head, SLICES_OF(by_library), by_library.shifts, ROWS);
+}
 
 // The layer of all defaults.
 static void library_layer(Pool pool) {
-    trial_layer_loss(POOL_OF(pool), 1, pool.assets, SLICES_OF(by_library), by_library.kinds, by_library.firsts,
+    trial_layer_loss(POOL_OF(pool), by_library.head, 1, pool.assets, SLICES_OF(by_library), by_library.kinds, by_library.firsts,
                      by_library.seconds);
+}
+
+// The last row of the store.
+static void library_read(Pool pool) {
+    trial_read(POOL_OF(pool), pool.probability, pool.correlation, pool.assets, LARGEST_POOL, SLICES_OF(by_library),
+               by_library.low_row_significands, by_library.high_row_significands, by_library.low_row_exponents,
+               by_library.high_row_exponents);
 }
 
 static void library_check(Pool pool) {
     Verdict &verdict = by_library.verdict;
-    verdict.kind = trial_check_column(POOL_OF(pool), claims, ROWS, SLICES_OF(by_library), &verdict.number);
+    verdict.kind = trial_check_column(POOL_OF(pool), by_library.head, claims, ROWS, SLICES_OF(by_library), &verdict.number);
 }
 
 static void steps_fill(Pool pool) {
@@ -84,6 +98,16 @@ static void steps_check(Pool pool) { by_steps.verdict = check_column(pool, by_st
 
 static void steps_shifts(Pool pool) { shift_list(pool, by_steps.store(), by_steps.shifts); }
 
+static void steps_read(Pool pool) {
+    for (size_t j = 0; j < ROWS; j++) {
+        Bounds entry = j <= pool.assets ? entry_at(by_steps.store(), row_start(pool.assets) + j) : Bounds{ZERO, ZERO};
+        by_steps.low_row_significands[j] = entry.low.significand;
+        by_steps.high_row_significands[j] = entry.high.significand;
+        by_steps.low_row_exponents[j] = entry.low.exponent;
+        by_steps.high_row_exponents[j] = entry.high.exponent;
+    }
+}
+
 static double microseconds(void (*call)(Pool), Pool pool, int batch) {
     auto start = std::chrono::steady_clock::now();
     for (int i = 0; i < batch; i++) call(pool);
@@ -98,6 +122,7 @@ static void compare(const char *name, void (*library)(Pool), void (*steps)(Pool)
         least_library = std::min(least_library, microseconds(library, pool, batch));
         least_steps = std::min(least_steps, microseconds(steps, pool, batch));
     }
+    std::memcpy(by_steps.head, &pool, sizeof pool);
     bool same = std::memcmp(&by_library, &by_steps, sizeof by_library) == 0;
     std::printf("| %s | %u | %u | %.2f | %.2f | %.2f |%s\n", name, pool.assets, pool.correlation, least_library, least_steps,
                 least_library / least_steps, same ? "" : " not the same");
@@ -115,6 +140,7 @@ int main(int count, char **words) {
             compare("tranche_losses, eight", library_losses, steps_losses, pool, runs);
             compare("layer_loss, all defaults", library_layer, steps_layer, pool, runs);
             compare("check_column", library_check, steps_check, pool, runs);
+            compare("desk read, last row", library_read, steps_read, pool, runs);
             if (assets <= REPORT_POOL) compare("shift_list", library_shifts, steps_shifts, pool, runs);
         }
 }

@@ -20,6 +20,11 @@ struct Layer {
     uint32_t i, j;
 };
 
+// What a desk expects of a head, and the row that it asks for.
+struct Request {
+    uint32_t probability, correlation, row;
+};
+
 // The four arrays of a store.
 struct Store {
     uint32_t *low_significands, *high_significands;
@@ -44,6 +49,11 @@ struct Verdict {
 };
 
 inline size_t row_start(size_t k) { return k * (k + 1) / 2; }
+
+inline Bounds entry_at(Store store, size_t place) {
+    return {{store.low_significands[place], store.low_exponents[place]},
+            {store.high_significands[place], store.high_exponents[place]}};
+}
 
 inline void write_row(const Kept *row, uint32_t k, uint32_t *significands, int32_t *exponents) {
     size_t start = row_start(k);

@@ -27,7 +27,7 @@ pub record ChecksRow (r : Chances) (c : Side → ℕ → Kept) (claims : List �
   pub holds-verdict : number ≡ 0 → HoldsVerdict r c claims verdict
 
 -- The grounds are those of a column call whose slice is the claim.
-pub record Checks (pool : Pool) (claims : List ℕ) (before after : Store) (verdict : Verdict) : Type 0 where
-  pub fills : Fills (columnRefusal pool before claims) distanceFor pool before after (refusalIn verdict)
+pub record Checks (pool head : Pool) (claims : List ℕ) (before after : Store) (verdict : Verdict) (head′ : Pool) : Type 0 where
+  pub fills : Fills (columnRefusal pool before claims) distanceFor pool head before after (refusalIn verdict) head′
   pub checks : ChecksRow (defaults (pool .assets) (pool .probability) (pool .correlation))
       (λ side. keptDefaults side (pool .assets) (pool .probability) (pool .correlation)) claims (columnRefusal pool before claims) verdict

@@ -1,8 +1,12 @@
 // Each call with the page of demands for its contract. Nothing is added to the calls: that these functions are proved shows that the
 // contracts in their source imply the page.
-use column_check::Verdict;
+use column_check::FilledVerdict;
+use desk::DeskRow;
+use desk::Request;
 use pool::Answer;
-use pool::LayerAnswer;
+use pool::Filled;
+use pool::FilledLayer;
+use pool::FilledLosses;
 use pool::Pool;
 use pool::TRANCHES;
 use pool::Tranche;
@@ -11,22 +15,25 @@ ghost use Prim.Native.Nat.{ℕ};
 ghost use lib.ListN.{length};
 ghost use Rattle.grounds.specs.Grounds.{firstGround, rowGrounds};
 ghost use Rattle.pool.specs.Demands.{BetaColumnDemands, BetaTranchesDemands};
-ghost use Rattle.pool.specs.Demands.{lent, FillDemands, RowDemands, ColumnDemands, ShiftDemands, TranchesDemands, LayerDemands, CheckDemands, ScreenColumnDemands, ScreenTranchesDemands};
+ghost use Rattle.pool.specs.Demands.{lent, FillDemands, RowDemands, ColumnDemands, ShiftDemands, TranchesDemands, LayerDemands, CheckDemands, ScreenColumnDemands, ScreenTranchesDemands, DeskDemands};
 
 pub fn fill(
     pool: Pool,
+    head: Pool,
     low_significands: &mut [u32],
     high_significands: &mut [u32],
     low_exponents: &mut [i32],
     high_exponents: &mut [i32],
-) -> u32
-    ensures { λ r. ⌜ FillDemands pool
+) -> Filled
+    ensures { λ r. ⌜ FillDemands pool head
         (lent (now («low_significands» .entry)) (now («high_significands» .entry)) (now («low_exponents» .entry)) (now («high_exponents» .entry)))
         (lent (now («low_significands» .exit)) (now («high_significands» .exit)) (now («low_exponents» .exit)) (now («high_exponents» .exit)))
-        r ⌝ }
+        (r .refusal)
+        (r .head) ⌝ }
 {
     pool::fill(
         pool,
+        head,
         low_significands,
         high_significands,
         low_exponents,
@@ -48,21 +55,24 @@ pub fn row_refusal(n: u32, k: u32, significands: &[u32]) -> u32
 
 pub fn column(
     pool: Pool,
+    head: Pool,
     low_significands: &mut [u32],
     high_significands: &mut [u32],
     low_exponents: &mut [i32],
     high_exponents: &mut [i32],
     units: &mut [u32],
-) -> u32
-    ensures { λ r. ⌜ ColumnDemands pool
+) -> Filled
+    ensures { λ r. ⌜ ColumnDemands pool head
         (lent (now («low_significands» .entry)) (now («high_significands» .entry)) (now («low_exponents» .entry)) (now («high_exponents» .entry)))
         (lent (now («low_significands» .exit)) (now («high_significands» .exit)) (now («low_exponents» .exit)) (now («high_exponents» .exit)))
         (now (units .entry))
         (now (units .exit))
-        r ⌝ }
+        (r .refusal)
+        (r .head) ⌝ }
 {
     pool::column(
         pool,
+        head,
         low_significands,
         high_significands,
         low_exponents,
@@ -73,21 +83,24 @@ pub fn column(
 
 pub fn shift_list(
     pool: Pool,
+    head: Pool,
     low_significands: &mut [u32],
     high_significands: &mut [u32],
     low_exponents: &mut [i32],
     high_exponents: &mut [i32],
     shifts: &mut [i32],
-) -> u32
-    ensures { λ r. ⌜ ShiftDemands pool
+) -> Filled
+    ensures { λ r. ⌜ ShiftDemands pool head
         (lent (now («low_significands» .entry)) (now («high_significands» .entry)) (now («low_exponents» .entry)) (now («high_exponents» .entry)))
         (lent (now («low_significands» .exit)) (now («high_significands» .exit)) (now («low_exponents» .exit)) (now («high_exponents» .exit)))
         (now (shifts .entry))
         (now (shifts .exit))
-        r ⌝ }
+        (r .refusal)
+        (r .head) ⌝ }
 {
     shift::shift_list(
         pool,
+        head,
         low_significands,
         high_significands,
         low_exponents,
@@ -98,20 +111,23 @@ pub fn shift_list(
 
 pub fn tranche_losses(
     pool: Pool,
+    head: Pool,
     tranches: [Tranche; TRANCHES],
     count: u32,
     low_significands: &mut [u32],
     high_significands: &mut [u32],
     low_exponents: &mut [i32],
     high_exponents: &mut [i32],
-) -> Answer
-    ensures { λ r. ⌜ TranchesDemands pool tranches count
+) -> FilledLosses
+    ensures { λ r. ⌜ TranchesDemands pool head tranches count
         (lent (now («low_significands» .entry)) (now («high_significands» .entry)) (now («low_exponents» .entry)) (now («high_exponents» .entry)))
         (lent (now («low_significands» .exit)) (now («high_significands» .exit)) (now («low_exponents» .exit)) (now («high_exponents» .exit)))
-        r ⌝ }
+        (r .answer)
+        (r .head) ⌝ }
 {
     pool::tranche_losses(
         pool,
+        head,
         tranches,
         count,
         low_significands,
@@ -123,20 +139,23 @@ pub fn tranche_losses(
 
 pub fn check_column(
     pool: Pool,
+    head: Pool,
     claims: &[u32],
     low_significands: &mut [u32],
     high_significands: &mut [u32],
     low_exponents: &mut [i32],
     high_exponents: &mut [i32],
-) -> Verdict
-    ensures { λ r. ⌜ CheckDemands pool
+) -> FilledVerdict
+    ensures { λ r. ⌜ CheckDemands pool head
         (now (claims .entry))
         (lent (now («low_significands» .entry)) (now («high_significands» .entry)) (now («low_exponents» .entry)) (now («high_exponents» .entry)))
         (lent (now («low_significands» .exit)) (now («high_significands» .exit)) (now («low_exponents» .exit)) (now («high_exponents» .exit)))
-        r ⌝ }
+        (r .verdict)
+        (r .head) ⌝ }
 {
     column_check::check_column(
         pool,
+        head,
         claims,
         low_significands,
         high_significands,
@@ -147,20 +166,23 @@ pub fn check_column(
 
 pub fn layer_loss(
     pool: Pool,
+    head: Pool,
     i: u32,
     j: u32,
     low_significands: &mut [u32],
     high_significands: &mut [u32],
     low_exponents: &mut [i32],
     high_exponents: &mut [i32],
-) -> LayerAnswer
-    ensures { λ r. ⌜ LayerDemands pool i j
+) -> FilledLayer
+    ensures { λ r. ⌜ LayerDemands pool head i j
         (lent (now («low_significands» .entry)) (now («high_significands» .entry)) (now («low_exponents» .entry)) (now («high_exponents» .entry)))
         (lent (now («low_significands» .exit)) (now («high_significands» .exit)) (now («low_exponents» .exit)) (now («high_exponents» .exit)))
-        r ⌝ }
+        (r .answer)
+        (r .head) ⌝ }
 {
     pool::layer_loss(
         pool,
+        head,
         i,
         j,
         low_significands,
@@ -170,23 +192,52 @@ pub fn layer_loss(
     )
 }
 
+pub fn desk_read(
+    head: Pool,
+    request: Request,
+    ceiling: u32,
+    low_significands: &[u32],
+    high_significands: &[u32],
+    low_exponents: &[i32],
+    high_exponents: &[i32],
+) -> DeskRow
+    ensures { λ r. ⌜ DeskDemands (request .probability) (request .correlation) (request .row) ceiling head
+        (lent (now («low_significands» .entry)) (now («high_significands» .entry)) (now («low_exponents» .entry)) (now («high_exponents» .entry)))
+        (r .refusal)
+        (r .low)
+        (r .high) ⌝ }
+{
+    desk::read(
+        head,
+        request,
+        ceiling,
+        low_significands,
+        high_significands,
+        low_exponents,
+        high_exponents,
+    )
+}
+
 pub fn screen_column(
     pool: Pool,
+    head: Pool,
     low_significands: &mut [u32],
     high_significands: &mut [u32],
     low_exponents: &mut [i32],
     high_exponents: &mut [i32],
     units: &mut [u32],
-) -> u32
-    ensures { λ r. ⌜ ScreenColumnDemands pool
+) -> Filled
+    ensures { λ r. ⌜ ScreenColumnDemands pool head
         (lent (now («low_significands» .entry)) (now («high_significands» .entry)) (now («low_exponents» .entry)) (now («high_exponents» .entry)))
         (lent (now («low_significands» .exit)) (now («high_significands» .exit)) (now («low_exponents» .exit)) (now («high_exponents» .exit)))
         (now (units .entry))
         (now (units .exit))
-        r ⌝ }
+        (r .refusal)
+        (r .head) ⌝ }
 {
     screen::column(
         pool,
+        head,
         low_significands,
         high_significands,
         low_exponents,
@@ -197,20 +248,23 @@ pub fn screen_column(
 
 pub fn screen_tranche_losses(
     pool: Pool,
+    head: Pool,
     tranches: [Tranche; TRANCHES],
     count: u32,
     low_significands: &mut [u32],
     high_significands: &mut [u32],
     low_exponents: &mut [i32],
     high_exponents: &mut [i32],
-) -> Answer
-    ensures { λ r. ⌜ ScreenTranchesDemands pool tranches count
+) -> FilledLosses
+    ensures { λ r. ⌜ ScreenTranchesDemands pool head tranches count
         (lent (now («low_significands» .entry)) (now («high_significands» .entry)) (now («low_exponents» .entry)) (now («high_exponents» .entry)))
         (lent (now («low_significands» .exit)) (now («high_significands» .exit)) (now («low_exponents» .exit)) (now («high_exponents» .exit)))
-        r ⌝ }
+        (r .answer)
+        (r .head) ⌝ }
 {
     screen::tranche_losses(
         pool,
+        head,
         tranches,
         count,
         low_significands,

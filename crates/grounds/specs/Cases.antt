@@ -1,6 +1,6 @@
 -- The grounds in figures: each for every input, those that each call checks, in order, for each ground of the library inputs to which it alone applies, what
 -- a loss call answers by its tranches and their count, what a layer call answers by its first and its last default, what the screen, a shift list and the
--- program `column` answer around their ceilings, and what the beta-binomial answers around full correlation.
+-- program `column` answer around their ceilings, what the beta-binomial answers around full correlation, and what a desk is answered.
 -- Assumes nothing.
 use Prim.Native.Nat.{ℕ, suc, _+_, _*_, _/_, _≤_, _<_}
 use mathlib.Core.Path.{_≡_, refl}
@@ -16,6 +16,7 @@ use Rattle.grounds.specs.Grounds.{Ground, firstOf, firstGround, storePla
 use Rattle.grounds.specs.Grounds.{attachmentsGround, storeGround, entriesGround, rowGround, screenGround, fullCorrelationGround, countGround, layerGround, poolGrounds}
 use Rattle.grounds.specs.Grounds.{trancheGrounds, tranchesGrounds, countedGrounds, fillGrounds, rowGrounds, entriesGrounds, columnGrounds, shiftGrounds, lossGrounds}
 use Rattle.grounds.specs.Grounds.{layerGrounds, screened, Screens, screenColumnGrounds, screenLossGrounds, betaPoolGrounds, betaColumnGrounds, betaLossGrounds}
+use Rattle.grounds.specs.Grounds.{expectedGround, ceilingGround, deskGrounds}
 
 -- The first ground that applies: one that does gives its number, whatever follows; one that does not leaves it to the others; none gives 0.
 pub first : (m : ℕ) (gs : List Ground)
@@ -26,7 +27,7 @@ unfolding firstGround firstOf
 first m gs = (refl, refl, refl)
 
 -- Each ground in figures, for every input.
-pub figures : (n p ρ R A B k units shifts count i j : ℕ) (lengths : List ℕ)
+pub figures : (n p ρ R A B k units shifts count i j p′ ρ′ ceiling : ℕ) (lengths : List ℕ)
     → (assetsGround largestPool n ≡ record { number = 1; applies = eqb n 0 || ltb 100 n })
     × (assetsGround reportPool n ≡ record { number = 1; applies = eqb n 0 || ltb 64 n })
     × (probabilityGround p ≡ record { number = 2; applies = ltb 10000 p })
@@ -42,8 +43,11 @@ pub figures : (n p ρ R A B k units shifts count i j : ℕ) (lengths : List ℕ)
     × (fullCorrelationGround ρ ≡ record { number = 12; applies = eqb ρ 10000 })
     × (countGround count ≡ record { number = 13; applies = eqb count 0 || ltb 8 count })
     × (layerGround n i j ≡ record { number = 14; applies = (eqb i 0 || ltb j i) || ltb n j })
-unfolding assetsGround probabilityGround correlationGround recoveryGround upperGround attachmentsGround storeGround entriesGround rowGround screenGround fullCorrelationGround countGround layerGround storePlaces tranchePlaces largestPool reportPool screenPool whole
-figures n p ρ R A B k units shifts count i j lengths = (refl, refl, refl, refl, refl, refl, refl, refl, refl, refl, refl, refl, refl, refl, refl)
+    × (expectedGround p ρ p′ ρ′ ≡ record { number = 15; applies = not (eqb p p′) || not (eqb ρ ρ′) })
+    × (ceilingGround ceiling k ≡ record { number = 16; applies = ltb ceiling k })
+unfolding assetsGround probabilityGround correlationGround recoveryGround upperGround attachmentsGround storeGround entriesGround rowGround screenGround fullCorrelationGround countGround layerGround expectedGround ceilingGround storePlaces tranchePlaces largestPool reportPool screenPool whole
+figures n p ρ R A B k units shifts count i j p′ ρ′ ceiling lengths =
+    (refl, refl, refl, refl, refl, refl, refl, refl, refl, refl, refl, refl, refl, refl, refl, refl, refl)
 
 -- Of the lengths of slices, some is shorter than m: one by one, and in no other way.
 pub shorter : (m l : ℕ) (ls : List ℕ) → (someShorter m [] ≡ false) × (someShorter m (l ∷ ls) ≡ (ltb l m || someShorter m ls))
@@ -56,7 +60,7 @@ pub screened-figures : {most limit n library number : ℕ} → Screens most limi
 screened-figures screens = (screens .eleven, screens .only, screens .otherwise)
 
 -- The grounds that each call checks, in order, with what it is given.
-pub orders : (most limit n p ρ k length units shifts count i j : ℕ) (t : Tranche) (ts : List Tranche) (lengths : List ℕ)
+pub orders : (most limit n p ρ k length units shifts count i j p′ ρ′ ceiling : ℕ) (t : Tranche) (ts : List Tranche) (lengths : List ℕ)
     → (fillGrounds most n p ρ lengths ≡ assetsGround most n ∷ probabilityGround p ∷ correlationGround ρ ∷ storeGround n lengths ∷ [])
     × (rowGrounds most n k length ≡ assetsGround most n ∷ storeGround n (length ∷ []) ∷ rowGround n k ∷ [])
     × (columnGrounds most n p ρ lengths units
@@ -78,8 +82,10 @@ pub orders : (most limit n p ρ k length units shifts count i j : ℕ) (t : Tran
     ≡ assetsGround most n ∷ probabilityGround p ∷ correlationGround ρ ∷ fullCorrelationGround ρ ∷ entriesGround 8 n units ∷ [])
     × (betaLossGrounds most n p ρ ts count
     ≡ assetsGround most n ∷ probabilityGround p ∷ correlationGround ρ ∷ fullCorrelationGround ρ ∷ countGround count ∷ tranchesGrounds (take count ts))
-unfolding fillGrounds rowGrounds entriesGrounds columnGrounds shiftGrounds lossGrounds layerGrounds screened screenColumnGrounds screenLossGrounds betaPoolGrounds betaColumnGrounds betaLossGrounds poolGrounds trancheGrounds tranchesGrounds countedGrounds
-orders most limit n p ρ k length units shifts count i j t ts lengths = (refl, refl, refl, refl, refl, refl, refl, refl, refl, refl, refl, refl)
+    × (deskGrounds most n p ρ p′ ρ′ k ceiling lengths
+    ≡ assetsGround most n ∷ probabilityGround p ∷ correlationGround ρ ∷ storeGround n lengths ∷ expectedGround p ρ p′ ρ′ ∷ rowGround n k ∷ ceilingGround ceiling k ∷ [])
+unfolding fillGrounds rowGrounds entriesGrounds columnGrounds shiftGrounds lossGrounds layerGrounds screened screenColumnGrounds screenLossGrounds betaPoolGrounds betaColumnGrounds betaLossGrounds deskGrounds poolGrounds trancheGrounds tranchesGrounds countedGrounds
+orders most limit n p ρ k length units shifts count i j p′ ρ′ ceiling t ts lengths = (refl, refl, refl, refl, refl, refl, refl, refl, refl, refl, refl, refl, refl)
 
 -- The numbers of the grounds that apply, of those of the library, with one tranche.
 abbrev applying : List Ground → List ℕ
@@ -245,3 +251,31 @@ pub beta-table :
     × (betaLoss 101 10001 10000 9 10001 10001 10001 ≡ 1)
 unfolding firstOf firstGround assetsGround probabilityGround correlationGround recoveryGround upperGround attachmentsGround entriesGround fullCorrelationGround countGround betaPoolGrounds betaColumnGrounds betaLossGrounds poolGrounds trancheGrounds tranchesGrounds countedGrounds tranchePlaces largestPool whole
 beta-table = (refl, refl, refl, refl, refl, refl, refl, refl, refl, refl, refl, refl, refl, refl, refl, refl, refl, refl, refl, refl, refl, refl)
+
+abbrev desk : (n p ρ p′ ρ′ k ceiling places : ℕ) → ℕ
+desk n p ρ p′ ρ′ k ceiling places = firstGround (deskGrounds largestPool n p ρ p′ ρ′ k ceiling (slices places places))
+
+-- A desk at the edges of 9 and 16, at both sides of what it expects, with the largest numbers, and with all that follows each ground wrong.
+pub desk-table :
+    (desk 100 10000 10000 10000 10000 100 100 5151 ≡ 0)
+    × (desk 1 0 0 0 0 0 0 3 ≡ 0)
+    × (desk 100 10000 10000 10000 10000 100 4294967295 5151 ≡ 0)
+    × (desk 100 10000 10000 10000 10000 101 101 5151 ≡ 9)
+    × (desk 100 10000 10000 10000 10000 101 100 5151 ≡ 9)
+    × (desk 100 10000 10000 10000 10000 4294967295 4294967295 5151 ≡ 9)
+    × (desk 100 10000 10000 10000 10000 100 99 5151 ≡ 16)
+    × (desk 1 0 0 0 0 1 0 3 ≡ 16)
+    × (desk 100 9999 10000 10000 10000 100 100 5151 ≡ 15)
+    × (desk 100 10000 9999 10000 10000 100 100 5151 ≡ 15)
+    × (desk 100 10000 10000 9999 10000 100 100 5151 ≡ 15)
+    × (desk 100 10000 10000 10000 9999 100 100 5151 ≡ 15)
+    × (desk 100 9999 10000 10000 9999 100 100 5151 ≡ 15)
+    × (desk 100 10000 10000 10001 10001 101 0 5151 ≡ 15)
+    × (desk 100 10000 10000 10001 10001 101 0 5150 ≡ 7)
+    × (desk 100 10000 10001 10001 10000 101 0 5150 ≡ 3)
+    × (desk 100 10001 10001 10000 10000 101 0 5150 ≡ 2)
+    × (desk 0 10001 10001 10000 10000 101 0 0 ≡ 1)
+    × (desk 101 10001 10001 10000 10000 102 0 0 ≡ 1)
+    × (desk 101 10001 10001 10001 10001 101 101 5253 ≡ 1)
+unfolding firstOf firstGround assetsGround probabilityGround correlationGround storeGround rowGround expectedGround ceilingGround storePlaces someShorter fillGrounds deskGrounds poolGrounds largestPool whole
+desk-table = (refl, refl, refl, refl, refl, refl, refl, refl, refl, refl, refl, refl, refl, refl, refl, refl, refl, refl, refl, refl)

@@ -96,6 +96,14 @@ countGround count = record { number = 13; applies = eqb count 0 || ltb tranchePl
 unfoldable pub layerGround : (n i j : ℕ) → Ground
 layerGround n i j = record { number = 14; applies = (eqb i 0 || ltb j i) || ltb n j }
 
+-- The default probability or the correlation of the head differs from what the desk expects.
+unfoldable pub expectedGround : (p ρ p′ ρ′ : ℕ) → Ground
+expectedGround p ρ p′ ρ′ = record { number = 15; applies = not (eqb p p′) || not (eqb ρ ρ′) }
+
+-- The row is above the desk's ceiling.
+unfoldable pub ceilingGround : (ceiling k : ℕ) → Ground
+ceilingGround ceiling k = record { number = 16; applies = ltb ceiling k }
+
 -- ---- the grounds of each call, in order; `most` is its ceiling on the assets
 
 -- 1 to 3, on the pool.
@@ -142,6 +150,11 @@ lossGrounds most n p ρ ts count lengths = poolGrounds most n p ρ ++ (countedGr
 -- 1 to 3, 14 and 7.
 unfoldable pub layerGrounds : (most n p ρ i j : ℕ) (lengths : List ℕ) → List Ground
 layerGrounds most n p ρ i j lengths = poolGrounds most n p ρ ++ (layerGround n i j ∷ storeGround n lengths ∷ [])
+
+-- 1 to 3 on the head of the store, 7, 15, 9 and 16; p′ and ρ′ are what the desk expects.
+unfoldable pub deskGrounds : (most n p ρ p′ ρ′ k ceiling : ℕ) (lengths : List ℕ) → List Ground
+deskGrounds most n p ρ p′ ρ′ k ceiling lengths =
+    fillGrounds most n p ρ lengths ++ (expectedGround p ρ p′ ρ′ ∷ rowGround n k ∷ ceilingGround ceiling k ∷ [])
 
 -- On the quote screen, which has a limit of its own: the same with 11 directly after the first.
 unfoldable pub screened : (limit n : ℕ) → List Ground → List Ground
@@ -211,6 +224,10 @@ pub record LossAccepted (most n p ρ : ℕ) (ts : List Tranche) (count : ℕ) (l
 pub record LayerAccepted (most n p ρ i j : ℕ) (lengths : List ℕ) : Type 0 where
   pub fill : FillAccepted most n p ρ lengths
   pub layer : LayerInRange n i j
+
+pub record DeskAccepted (most n p ρ k : ℕ) (lengths : List ℕ) : Type 0 where
+  pub fill : FillAccepted most n p ρ lengths
+  pub row : k ≤ n
 
 pub record BetaPoolAccepted (most n p ρ : ℕ) : Type 0 where
   pub pool : PoolAccepted most n p ρ

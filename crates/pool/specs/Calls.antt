@@ -51,8 +51,9 @@ unfoldable pub columnRefusal : Pool → Store → List ℕ → ℕ
 columnRefusal pool s units =
     firstGround (columnGrounds largestPool (pool .assets) (pool .probability) (pool .correlation) (lengths s) (length units))
 
-pub record Prints (refuses : Pool → Store → List ℕ → ℕ) (g : ℕ → ℕ) (pool : Pool) (before after : Store) (units units′ : List ℕ) (refusal : ℕ) : Type 0 where
-  pub fills : Fills (refuses pool before units) g pool before after refusal
+pub record Prints (refuses : Pool → Store → List ℕ → ℕ) (g : ℕ → ℕ) (pool head : Pool) (before after : Store) (units units′ : List ℕ) (refusal : ℕ) (head′ : Pool)
+    : Type 0 where
+  pub fills : Fills (refuses pool before units) g pool head before after refusal head′
   pub prints : PrintsRow (tenths (tenthsFor (pool .assets))) (defaults (pool .assets) (pool .probability) (pool .correlation))
       (keptDefaults Low (pool .assets) (pool .probability) (pool .correlation)) units units′ refusal
 
@@ -63,9 +64,9 @@ lossRefusal pool tranches count s =
     firstGround (lossGrounds largestPool (pool .assets) (pool .probability) (pool .correlation) tranches count (lengths s))
 
 pub record Replies
-    (refuses : Pool → List Tranche → ℕ → Store → ℕ) (g : ℕ → ℕ) (pool : Pool) (tranches : List Tranche) (count : ℕ) (before after : Store) (refusal : ℕ)
-    (losses : List LossAnswer) : Type 0 where
-  pub fills : Fills (refuses pool tranches count before) g pool before after refusal
+    (refuses : Pool → List Tranche → ℕ → Store → ℕ) (g : ℕ → ℕ) (pool head : Pool) (tranches : List Tranche) (count : ℕ) (before after : Store) (refusal : ℕ)
+    (head′ : Pool) (losses : List LossAnswer) : Type 0 where
+  pub fills : Fills (refuses pool tranches count before) g pool head before after refusal head′
   pub replies : RepliesLosses (g (pool .assets)) (pool .probability) (defaults (pool .assets) (pool .probability) (pool .correlation))
       (λ side. keptDefaults side (pool .assets) (pool .probability) (pool .correlation)) (take count tranches) refusal losses
 
@@ -74,7 +75,7 @@ pub record Replies
 unfoldable pub layerRefusal : Pool → (i j : ℕ) → Store → ℕ
 layerRefusal pool i j s = firstGround (layerGrounds largestPool (pool .assets) (pool .probability) (pool .correlation) i j (lengths s))
 
-pub record LayerReplies (pool : Pool) (i j : ℕ) (before after : Store) (refusal : ℕ) (loss : LossAnswer) : Type 0 where
-  pub fills : Fills (layerRefusal pool i j before) distanceFor pool before after refusal
+pub record LayerReplies (pool head : Pool) (i j : ℕ) (before after : Store) (refusal : ℕ) (head′ : Pool) (loss : LossAnswer) : Type 0 where
+  pub fills : Fills (layerRefusal pool i j before) distanceFor pool head before after refusal head′
   pub replies : RepliesLayer (distanceFor (pool .assets)) (defaults (pool .assets) (pool .probability) (pool .correlation))
       (λ side. keptDefaults side (pool .assets) (pool .probability) (pool .correlation)) i j refusal loss

@@ -1,6 +1,6 @@
 -- The buyer's demands, with their numbers, on what each call is given and what it leaves. Demands/Theorems.antt shows that the contract of each call implies
 -- its part; that of a call of a crate above this one, which has its demands here, is shown there.
--- 1. Every input is answered or refused by one number, and a refused call leaves its slices as they were.
+-- 1. Every input is answered or refused by one number, and a refused call leaves its slices as they were, and hands back the head that came.
 -- 2. Two bounds that the rounding steps make lie round every exact value of the call's model: the correlated binomial, and in the calls that have its name the
 -- beta-binomial.
 -- 3. The two are at most one part in 100,000 apart for up to 64 assets and one part in 50,000 for more, on the quote screen one part in 1,000,000; the rows of a
@@ -9,6 +9,7 @@
 -- a unit off passes, and one that passes is at most half a unit and 100,000 × (high − low) off, which is at most 1.5 units for up to 64 assets and 2.5 for more.
 -- Of tranches that touch from 0 to 10,000 with one R, the exact losses, each times B − A, add to p × (10,000 − R) / 10,000; the low bounds, and the low numbers that are
 -- answered, add to no more than that, the high ones to no less.
+-- A row that a desk reads has the bounds of the store that was filled, with the distance of its row; what else a store holds plays no part.
 -- Assumes nothing.
 use Prim.Native.Nat.{ℕ, suc, _+_, _-_, _*_, _/_, _%_, _^_, _≤_, _<_}
 use mathlib.Core.Path.{_≡_}
@@ -40,7 +41,7 @@ use Rattle.steps.specs.CorrelatedBinomial.Exponents.{PoolNumber}
 use Rattle.steps.specs.BetaBinomial.{keptEntry, keptBetaDefaults, BetaNumber}
 use Rattle.steps.specs.Inputs.{distanceFor}
 use Rattle.steps.specs.declared.Tranche.{Tranche}
-use Rattle.grounds.specs.Grounds.{Ground, firstGround, fillGrounds, rowGrounds, columnGrounds, shiftGrounds, lossGrounds, layerGrounds, screenColumnGrounds, screenLossGrounds, Screens, betaColumnGrounds, betaLossGrounds}
+use Rattle.grounds.specs.Grounds.{Ground, firstGround, fillGrounds, rowGrounds, columnGrounds, shiftGrounds, lossGrounds, layerGrounds, screenColumnGrounds, screenLossGrounds, Screens, betaColumnGrounds, betaLossGrounds, deskGrounds}
 use Rattle.store.specs.declared.Pool.{Pool}
 use Rattle.store.specs.Stores.{Store, store}
 use Rattle.expected_losses.specs.declared.Loss.{Loss}
@@ -379,20 +380,25 @@ module _ (pool : Pool) where
   abbrev places : ℕ
   places = (n + 1) * (n + 2) / 2
 
-  -- What every call that fills the store leaves of it where it is accepted: the table, and behind it what stood there. No slice is longer or shorter than it was.
-  pub record StoreDemands (parts : ℕ → ℕ) (before after : Slices) (refusal : ℕ) : Type 0 where
+  -- What every call that fills the store hands back and leaves of it. The head is the pool if the call is accepted, and the one that came if it is refused. Where it is accepted,
+  -- no ground of a fill applies, whatever else the call checks; the store has the table, and behind it what stood there; no slice is longer or shorter than it was.
+  pub record StoreDemands (parts : ℕ → ℕ) (head : Pool) (before after : Slices) (refusal : ℕ) (head′ : Pool) : Type 0 where
+    pub head-is : refusal ≡ 0 → head′ ≡ pool
+    pub head-kept : (refusal ≡ 0 → ⊥) → head′ ≡ head
+    pub accepted : refusal ≡ 0 → firstGround (fillGrounds 100 n p ρ (lengthsOf before)) ≡ 0
     pub lengths : refusal ≡ 0 → lengthsOf after ≡ lengthsOf before
     pub table : refusal ≡ 0 → TableDemands parts after
     pub later : refusal ≡ 0 → from places after ≡ from places before
 
-  pub record FillDemands (before after : Slices) (refusal : ℕ) : Type 0 where
+  pub record FillDemands (head : Pool) (before after : Slices) (refusal : ℕ) (head′ : Pool) : Type 0 where
     pub one : Demand1 (fillGrounds 100 n p ρ (lengthsOf before)) refusal before after
-    pub store : StoreDemands partsFor before after refusal
+    pub store : StoreDemands partsFor head before after refusal head′
 
   -- What a call leaves that also writes entries 0 to n to a slice beside the store, which held `old`: a place behind them keeps its content.
-  pub record EntriesDemands {A : Type 0} (parts : ℕ → ℕ) (grounds : List Ground) (before after : Slices) (old new : List A) (refusal : ℕ) : Type 0 where
+  pub record EntriesDemands {A : Type 0} (parts : ℕ → ℕ) (grounds : List Ground) (head : Pool) (before after : Slices) (old new : List A) (refusal : ℕ) (head′ : Pool)
+      : Type 0 where
     pub one : Demand1 {Given = Slices × List A} grounds refusal (before, old) (after, new)
-    pub store : StoreDemands parts before after refusal
+    pub store : StoreDemands parts head before after refusal head′
     pub entries-length : refusal ≡ 0 → length new ≡ length old
     pub later-entries : refusal ≡ 0 → drop (n + 1) new ≡ drop (n + 1) old
 
@@ -401,21 +407,23 @@ module _ (pool : Pool) where
   lowTails ρ k = keptTail Low n (keptDefaults Low n p ρ) k
 
   -- Of a column call, by how far its bounds are apart and by its grounds.
-  pub record ColumnDemandsBy (parts : ℕ → ℕ) (grounds : List Ground) (before after : Slices) (units units′ : List ℕ) (refusal : ℕ) : Type 0 where
-    pub leaves : EntriesDemands parts grounds before after units units′ refusal
+  pub record ColumnDemandsBy (parts : ℕ → ℕ) (grounds : List Ground) (head : Pool) (before after : Slices) (units units′ : List ℕ) (refusal : ℕ) (head′ : Pool)
+      : Type 0 where
+    pub leaves : EntriesDemands parts grounds head before after units units′ refusal head′
     pub column : refusal ≡ 0 → Demand3Column n (lowTails ρ) (printedTail n (keptDefaults Low n p ρ)) (chance (defaults n p ρ)) units′
 
-  abbrev pub ColumnDemands : (before after : Slices) (units units′ : List ℕ) (refusal : ℕ) → Type 0
-  ColumnDemands before after units = ColumnDemandsBy partsFor (columnGrounds 100 n p ρ (lengthsOf before) (length units)) before after units
+  abbrev pub ColumnDemands : (head : Pool) (before after : Slices) (units units′ : List ℕ) (refusal : ℕ) (head′ : Pool) → Type 0
+  ColumnDemands head before after units = ColumnDemandsBy partsFor (columnGrounds 100 n p ρ (lengthsOf before) (length units)) head before after units
 
   -- The column of the quote screen, with grounds and a distance of its own. It refuses by 11 exactly where there are more than 20 assets and 1 does not apply. Save
   -- there, what it answers and leaves is what the contract of the library's call says for the same inputs, which leaves one outcome.
-  pub record ScreenColumnDemands (before after : Slices) (units units′ : List ℕ) (refusal : ℕ) : Type 0 where
-    pub own : ColumnDemandsBy (λ _. 1000000) (screenColumnGrounds 100 20 n p ρ (lengthsOf before) (length units)) before after units units′ refusal
+  pub record ScreenColumnDemands (head : Pool) (before after : Slices) (units units′ : List ℕ) (refusal : ℕ) (head′ : Pool) : Type 0 where
+    pub own : ColumnDemandsBy (λ _. 1000000) (screenColumnGrounds 100 20 n p ρ (lengthsOf before) (length units)) head before after units units′ refusal head′
     pub screens : Screens 100 20 n (firstGround (columnGrounds 100 n p ρ (lengthsOf before) (length units))) refusal
-    pub library : (refusal ≡ 11 → ⊥) → Prints columnRefusal distanceFor pool (storeOf before) (storeOf after) units units′ refusal
-    pub same : (refusal ≡ 11 → ⊥) → (after₂ : Slices) (units₂ : List ℕ) (refusal₂ : ℕ)
-        → Prints columnRefusal distanceFor pool (storeOf before) (storeOf after₂) units units₂ refusal₂ → (refusal ≡ refusal₂) × (after ≡ after₂) × (units′ ≡ units₂)
+    pub library : (refusal ≡ 11 → ⊥) → Prints columnRefusal distanceFor pool head (storeOf before) (storeOf after) units units′ refusal head′
+    pub same : (refusal ≡ 11 → ⊥) → (after₂ : Slices) (units₂ : List ℕ) (refusal₂ : ℕ) (head₂ : Pool)
+        → Prints columnRefusal distanceFor pool head (storeOf before) (storeOf after₂) units units₂ refusal₂ head₂
+        → (refusal ≡ refusal₂) × (after ≡ after₂) × (units′ ≡ units₂) × (head′ ≡ head₂)
 
   -- What every accepted call of the beta-binomial model works out. Entry j is on either side what the quotients give, a bound of P(j,n), whose exact value is the closed
   -- form with the correlation ρ / (1 + iρ) after i defaults.
@@ -433,52 +441,52 @@ module _ (pool : Pool) where
         → Demand3Column n (keptTail Low n (keptBetaDefaults Low n p ρ)) (printedTail n (keptBetaDefaults Low n p ρ)) (chance (betaDefaults n p ρ)) units′
 
   -- The other correlation is 0. What the steps make there, which stands in no slice, has bounds and a range as well.
-  pub record ShiftDemands (before after : Slices) (shifts shifts′ : List ℤ) (refusal : ℕ) : Type 0 where
-    pub leaves : EntriesDemands partsFor (shiftGrounds 64 n p ρ (lengthsOf before) (length shifts)) before after shifts shifts′ refusal
+  pub record ShiftDemands (head : Pool) (before after : Slices) (shifts shifts′ : List ℤ) (refusal : ℕ) (head′ : Pool) : Type 0 where
+    pub leaves : EntriesDemands partsFor (shiftGrounds 64 n p ρ (lengthsOf before) (length shifts)) head before after shifts shifts′ refusal head′
     pub uncorrelated : refusal ≡ 0 → StepsDemands (partsFor n) n (defaults n p 0) (λ side. keptDefaults side n p 0) (λ side. PoolNumber side n p 0)
     pub list : refusal ≡ 0
         → Demand3Shifts n (lowTails ρ) (lowTails 0) (printedTail n (keptDefaults Low n p ρ)) (printedTail n (keptDefaults Low n p 0))
         (tail (defaults n p ρ)) (tail (defaults n p 0)) shifts′
 
   -- The check of a claimed column, which is lent to be read, so that no call can write to it. Its grounds are those of a column.
-  pub record CheckDemands (claims : List ℕ) (before after : Slices) (verdict : Verdict) : Type 0 where
+  pub record CheckDemands (head : Pool) (claims : List ℕ) (before after : Slices) (verdict : Verdict) (head′ : Pool) : Type 0 where
     pub one : Demand1 (columnGrounds 100 n p ρ (lengthsOf before) (length claims)) (refusalOf verdict) before after
-    pub store : StoreDemands partsFor before after (refusalOf verdict)
+    pub store : StoreDemands partsFor head before after (refusalOf verdict) head′
     pub answer : refusalOf verdict ≡ 0 → VerdictDemands n (λ side. keptDefaults side n p ρ) (chance (defaults n p ρ)) claims verdict
 
   -- The layer call. The layer of all defaults loses p.
-  pub record LayerDemands (i j : ℕ) (before after : Slices) (answer : LayerAnswer) : Type 0 where
+  pub record LayerDemands (head : Pool) (i j : ℕ) (before after : Slices) (answer : LayerAnswer) (head′ : Pool) : Type 0 where
     pub one : Demand1 (layerGrounds 100 n p ρ i j (lengthsOf before)) (answer .refusal) before after
-    pub store : StoreDemands partsFor before after (answer .refusal)
+    pub store : StoreDemands partsFor head before after (answer .refusal) head′
     pub layer : answer .refusal ≡ 0 → LayerLossDemands (partsFor n) (defaults n p ρ) (λ side. keptDefaults side n p ρ) i j (answer .loss)
     pub of-all : answer .refusal ≡ 0 → Same (layerLoss (defaults n p ρ) 1 n) (record { num = p; den = 10000; positive = lit< tt })
     pub refused : (answer .refusal ≡ 0 → ⊥) → answer .loss ≡ Untouched
 
-  module _ (tranches : List Tranche) (count : ℕ) where
+  module _ (head : Pool) (tranches : List Tranche) (count : ℕ) where
     -- Of a loss call, by how far its bounds are apart and by its grounds.
-    pub record TranchesDemandsBy (parts : ℕ → ℕ) (grounds : List Ground) (before after : Slices) (answer : Answer) : Type 0 where
+    pub record TranchesDemandsBy (parts : ℕ → ℕ) (grounds : List Ground) (before after : Slices) (answer : Answer) (head′ : Pool) : Type 0 where
       pub one : Demand1 grounds (answer .refusal) before after
-      pub store : StoreDemands parts before after (answer .refusal)
+      pub store : StoreDemands parts head before after (answer .refusal) head′
       pub losses : LossesDemands (parts n) p (defaults n p ρ) (λ side. keptDefaults side n p ρ) tranches count answer
 
-    abbrev pub TranchesDemands : (before after : Slices) (answer : Answer) → Type 0
+    abbrev pub TranchesDemands : (before after : Slices) (answer : Answer) (head′ : Pool) → Type 0
     TranchesDemands before = TranchesDemandsBy partsFor (lossGrounds 100 n p ρ tranches count (lengthsOf before)) before
 
     -- The quote screen's losses, as its column.
-    pub record ScreenTranchesDemands (before after : Slices) (answer : Answer) : Type 0 where
-      pub own : TranchesDemandsBy (λ _. 1000000) (screenLossGrounds 100 20 n p ρ tranches count (lengthsOf before)) before after answer
+    pub record ScreenTranchesDemands (before after : Slices) (answer : Answer) (head′ : Pool) : Type 0 where
+      pub own : TranchesDemandsBy (λ _. 1000000) (screenLossGrounds 100 20 n p ρ tranches count (lengthsOf before)) before after answer head′
       pub screens : Screens 100 20 n (firstGround (lossGrounds 100 n p ρ tranches count (lengthsOf before))) (answer .refusal)
       pub library : (answer .refusal ≡ 11 → ⊥)
-          → Replies lossRefusal distanceFor pool tranches count (storeOf before) (storeOf after) (answer .refusal) (lossesIn (answer .losses))
-      pub same : (answer .refusal ≡ 11 → ⊥) → (after₂ : Slices) (answer₂ : Answer)
-          → Replies lossRefusal distanceFor pool tranches count (storeOf before) (storeOf after₂) (answer₂ .refusal) (lossesIn (answer₂ .losses))
-          → (answer ≡ answer₂) × (after ≡ after₂)
+          → Replies lossRefusal distanceFor pool head tranches count (storeOf before) (storeOf after) (answer .refusal) head′ (lossesIn (answer .losses))
+      pub same : (answer .refusal ≡ 11 → ⊥) → (after₂ : Slices) (answer₂ : Answer) (head₂ : Pool)
+          → Replies lossRefusal distanceFor pool head tranches count (storeOf before) (storeOf after₂) (answer₂ .refusal) head₂ (lossesIn (answer₂ .losses))
+          → (answer ≡ answer₂) × (after ≡ after₂) × (head′ ≡ head₂)
 
-    -- The loss call of the beta-binomial model, which is lent no slice.
-    pub record BetaTranchesDemands (answer : Answer) : Type 0 where
-      pub number : answer .refusal ≡ firstGround (betaLossGrounds 100 n p ρ tranches count)
-      pub row : answer .refusal ≡ 0 → BetaRowDemands (partsFor n)
-      pub losses : LossesDemands (partsFor n) p (betaDefaults n p ρ) (λ side. keptBetaDefaults side n p ρ) tranches count answer
+  -- The loss call of the beta-binomial model, which is lent no slice.
+  pub record BetaTranchesDemands (tranches : List Tranche) (count : ℕ) (answer : Answer) : Type 0 where
+    pub number : answer .refusal ≡ firstGround (betaLossGrounds 100 n p ρ tranches count)
+    pub row : answer .refusal ≡ 0 → BetaRowDemands (partsFor n)
+    pub losses : LossesDemands (partsFor n) p (betaDefaults n p ρ) (λ side. keptBetaDefaults side n p ρ) tranches count answer
 
 -- The slice is lent to be read, so that no call can write to it. Row k of a filled store has the significands of its bounds.
 pub record RowDemands (n k : ℕ) (significands part : List ℕ) (refusal : ℕ) : Type 0 where
@@ -488,3 +496,52 @@ pub record RowDemands (n k : ℕ) (significands part : List ℕ) (refusal : ℕ)
   pub entry : refusal ≡ 0 → (j : ℕ) → j ≤ k → getD part j 0 ≡ getD significands (k * (k + 1) / 2 + j) 0
   pub of-filled : refusal ≡ 0 → (parts : ℕ → ℕ) (pool : Pool) (s : Slices) → TableDemands pool parts s → n ≤ pool .assets → (side : Side) → significands ≡ significandsOn side s
       → (j : ℕ) → j ≤ k → getD part j 0 ≡ keptRow side (pool .probability) (pool .correlation) k j .significand
+
+-- ---- the desk
+
+-- Two stores with slices of the same lengths, and with the same numbers in row k.
+pub record SameRow (k : ℕ) (s t : Slices) : Type 0 where
+  pub lengths : lengthsOf s ≡ lengthsOf t
+  pub entries : (side : Side) (j : ℕ) → j ≤ k → numberOn side s (k * (k + 1) / 2 + j) ≡ numberOn side t (k * (k + 1) / 2 + j)
+
+-- Of two rows that of a side.
+abbrev pub rowOf : (low high : List Kept) → Side → List Kept
+rowOf low high Low = low
+rowOf low high High = high
+
+-- A desk that expects the numbers p′ and ρ′ of the head, asks for row k and has a ceiling.
+module _ (p′ ρ′ k ceiling : ℕ) where
+  -- What it is handed of a store with a head, 101 places on either side: the kept numbers of the row, and zeros behind them; nothing but zeros on a refusal. The slices
+  -- are lent to be read, so that no call can write to them.
+  pub record DeskRowDemands (head : Pool) (s : Slices) (refusal : ℕ) (low high : List Kept) : Type 0 where
+    pub number : refusal ≡ firstGround (deskGrounds 100 (head .assets) (head .probability) (head .correlation) p′ ρ′ k ceiling (lengthsOf s))
+    pub places : (side : Side) → length (rowOf low high side) ≡ 101
+    pub entry : refusal ≡ 0 → (side : Side) (j : ℕ) → j ≤ k → getD (rowOf low high side) j keptZero ≡ numberOn side s (k * (k + 1) / 2 + j)
+    pub later : refusal ≡ 0 → (side : Side) (j : ℕ) → k < j → getD (rowOf low high side) j keptZero ≡ keptZero
+    pub refused : (refusal ≡ 0 → ⊥) → (side : Side) (j : ℕ) → getD (rowOf low high side) j keptZero ≡ keptZero
+
+  -- Of a read with the head that an accepted call for a pool handed back, from slices as long as those that it left and with its numbers in row k, whatever came between: by
+  -- which number it is refused, and that it is answered otherwise; the bounds of what it is handed; and that with the head and from the entries of another such call whose
+  -- pool differs in the assets alone it is answered the same, in a row that both have.
+  pub record FilledRowDemands (parts : ℕ → ℕ) (pool : Pool) (refusal : ℕ) (low high : List Kept) : Type 0 where
+    pub other-pair : (p′ ≡ pool .probability → ρ′ ≡ pool .correlation → ⊥) → refusal ≡ 15
+    pub above-assets : p′ ≡ pool .probability → ρ′ ≡ pool .correlation → pool .assets < k → refusal ≡ 9
+    pub above-ceiling : p′ ≡ pool .probability → ρ′ ≡ pool .correlation → k ≤ pool .assets → ceiling < k → refusal ≡ 16
+    pub answered : p′ ≡ pool .probability → ρ′ ≡ pool .correlation → k ≤ pool .assets → k ≤ ceiling → refusal ≡ 0
+    pub made : refusal ≡ 0 → (side : Side) (j : ℕ) → j ≤ k → getD (rowOf low high side) j keptZero ≡ keptRow side (pool .probability) (pool .correlation) k j
+    pub bounds : refusal ≡ 0 → (j : ℕ) → j ≤ k
+        → BoundDemands (parts k) (getD low j keptZero) (getD high j keptZero) (probability (pool .probability) (pool .correlation) j k)
+    pub exponents : refusal ≡ 0 → (side : Side) (j : ℕ) → j ≤ k
+        → (negsuc 79999 ≤ℤ getD (rowOf low high side) j keptZero .exponent) × (getD (rowOf low high side) j keptZero .exponent ≤ℤ pos 100)
+    pub other-assets : (parts₂ : ℕ → ℕ) (pool₂ came₂ head₂ : Pool) (before₂ after₂ s₂ : Slices) (refusal₂ : ℕ) (low₂ high₂ : List Kept)
+        → StoreDemands pool₂ parts₂ came₂ before₂ after₂ 0 head₂ → SameRow k s₂ after₂ → DeskRowDemands head₂ s₂ refusal₂ low₂ high₂
+        → pool₂ .probability ≡ pool .probability → pool₂ .correlation ≡ pool .correlation → k ≤ pool .assets → k ≤ pool₂ .assets
+        → (refusal ≡ refusal₂) × (low ≡ low₂) × (high ≡ high₂)
+
+  -- Whatever else the store holds, the answer is the same.
+  pub record DeskDemands (head : Pool) (s : Slices) (refusal : ℕ) (low high : List Kept) : Type 0 where
+    pub handed : DeskRowDemands head s refusal low high
+    pub alone : (s₂ : Slices) (refusal₂ : ℕ) (low₂ high₂ : List Kept) → SameRow k s₂ s → DeskRowDemands head s₂ refusal₂ low₂ high₂
+        → (refusal ≡ refusal₂) × (low ≡ low₂) × (high ≡ high₂)
+    pub of-filled : (parts : ℕ → ℕ) (pool came : Pool) (before after : Slices) → StoreDemands pool parts came before after 0 head → SameRow k s after
+        → FilledRowDemands parts pool refusal low high

@@ -1,5 +1,5 @@
 // Works out the expected loss of a layer by number of defaults.
-use super::LayerAnswer;
+use super::FilledLayer;
 use super::Pool;
 use grounds::Lengths;
 use steps::LARGEST_POOL;
@@ -11,18 +11,20 @@ ghost use Rattle.pool.specs.Calls.{LayerReplies};
 // The expected loss of the layer from the i-th to the j-th default: the mean of the tails at i to j. The store is filled on the way.
 pub fn layer_loss(
     pool: Pool,
+    head: Pool,
     i: u32,
     j: u32,
     low_significands: &mut [u32],
     high_significands: &mut [u32],
     low_exponents: &mut [i32],
     high_exponents: &mut [i32],
-) -> LayerAnswer
-    ensures { λ r. ⌜ LayerReplies pool i j
+) -> FilledLayer
+    ensures { λ r. ⌜ LayerReplies pool head i j
         (store (now («low_significands» .entry)) (now («high_significands» .entry)) (now («low_exponents» .entry)) (now («high_exponents» .entry)))
         (store (now («low_significands» .exit)) (now («high_significands» .exit)) (now («low_exponents» .exit)) (now («high_exponents» .exit)))
-        (r .refusal)
-        (lossOf (r .loss)) ⌝ }
+        (r .answer .refusal)
+        (r .head)
+        (lossOf (r .answer .loss)) ⌝ }
 {
     let refusal = refusals::layer_refusal(
         LARGEST_POOL,
@@ -39,7 +41,8 @@ pub fn layer_loss(
         },
     );
     if refusal != 0 {
-        return layer_losses::refused(refusal);
+        let answer = layer_losses::refused(refusal);
+        return FilledLayer { answer, head };
     }
     let rows = fill_both(
         pool,
@@ -50,5 +53,6 @@ pub fn layer_loss(
     );
     let low = rows.low;
     let high = rows.high;
-    layer_losses::layer_loss(pool.assets, low, high, i, j)
+    let answer = layer_losses::layer_loss(pool.assets, low, high, i, j);
+    FilledLayer { answer, head: pool }
 }

@@ -15,7 +15,20 @@ pub use losses::tranche_losses;
 pub use printing::column;
 pub use steps::TRANCHES;
 pub use steps::Tranche;
+pub use store::Filled;
 pub use store::Pool;
 pub use store::fill;
 pub use store::row;
 pub use store::row_refusal;
+
+// What the loss call hands back: its answer, and the head of the store.
+pub struct FilledLosses {
+    pub answer: Answer,
+    pub head: Pool,
+}
+
+// What the layer call hands back.
+pub struct FilledLayer {
+    pub answer: LayerAnswer,
+    pub head: Pool,
+}

@@ -1,5 +1,5 @@
 // Works out the expected losses of tranches.
-use super::Answer;
+use super::FilledLosses;
 use super::Pool;
 use super::TRANCHES;
 use super::Tranche;
@@ -15,18 +15,20 @@ ghost use Rattle.pool.specs.Calls.{lossRefusal, Replies};
 // is filled on the way.
 pub fn tranche_losses(
     pool: Pool,
+    head: Pool,
     tranches: [Tranche; TRANCHES],
     count: u32,
     low_significands: &mut [u32],
     high_significands: &mut [u32],
     low_exponents: &mut [i32],
     high_exponents: &mut [i32],
-) -> Answer
-    ensures { λ r. ⌜ Replies lossRefusal distanceFor pool tranches count
+) -> FilledLosses
+    ensures { λ r. ⌜ Replies lossRefusal distanceFor pool head tranches count
         (store (now («low_significands» .entry)) (now («high_significands» .entry)) (now («low_exponents» .entry)) (now («high_exponents» .entry)))
         (store (now («low_significands» .exit)) (now («high_significands» .exit)) (now («low_exponents» .exit)) (now («high_exponents» .exit)))
-        (r .refusal)
-        (lossesIn (r .losses)) ⌝ }
+        (r .answer .refusal)
+        (r .head)
+        (lossesIn (r .answer .losses)) ⌝ }
 {
     let refusal = refusals::loss_refusal(
         LARGEST_POOL,
@@ -43,7 +45,8 @@ pub fn tranche_losses(
         },
     );
     if refusal != 0 {
-        return expected_losses::refused(refusal);
+        let answer = expected_losses::refused(refusal);
+        return FilledLosses { answer, head };
     }
     let rows = fill_both(
         pool,
@@ -54,5 +57,6 @@ pub fn tranche_losses(
     );
     let low = rows.low;
     let high = rows.high;
-    expected_losses::tranche_losses(pool.assets, low, high, tranches, count)
+    let answer = expected_losses::tranche_losses(pool.assets, low, high, tranches, count);
+    FilledLosses { answer, head: pool }
 }

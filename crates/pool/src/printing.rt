@@ -1,4 +1,5 @@
 // Prints the column of a pool.
+use super::Filled;
 use super::Pool;
 use grounds::Lengths;
 use steps::LARGEST_POOL;
@@ -8,21 +9,23 @@ ghost use Rattle.store.specs.Stores.{store};
 ghost use Rattle.pool.specs.Calls.{columnRefusal, Prints};
 
 // Writes rows 0 to n of the column, each the difference of two printed tails, and nothing behind them. The store is filled on the
-// way. Gives the number of a refusal, or 0.
+// way.
 pub fn column(
     pool: Pool,
+    head: Pool,
     low_significands: &mut [u32],
     high_significands: &mut [u32],
     low_exponents: &mut [i32],
     high_exponents: &mut [i32],
     units: &mut [u32],
-) -> u32
-    ensures { λ r. ⌜ Prints columnRefusal distanceFor pool
+) -> Filled
+    ensures { λ r. ⌜ Prints columnRefusal distanceFor pool head
         (store (now («low_significands» .entry)) (now («high_significands» .entry)) (now («low_exponents» .entry)) (now («high_exponents» .entry)))
         (store (now («low_significands» .exit)) (now («high_significands» .exit)) (now («low_exponents» .exit)) (now («high_exponents» .exit)))
         (now (units .entry))
         (now (units .exit))
-        r ⌝ }
+        (r .refusal)
+        (r .head) ⌝ }
 {
     let refusal = refusals::column_refusal(
         LARGEST_POOL,
@@ -38,7 +41,7 @@ pub fn column(
         units.len(),
     );
     if refusal != 0 {
-        return refusal;
+        return Filled { refusal, head };
     }
     let rows = fill_both(
         pool,
@@ -49,5 +52,8 @@ pub fn column(
     );
     let row = rows.low;
     chances::tails::print_column(pool.assets, row, units);
-    0
+    Filled {
+        refusal: 0,
+        head: pool,
+    }
 }

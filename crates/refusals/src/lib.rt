@@ -15,7 +15,7 @@ use steps::Tranche;
 ghost use mathlib.Core.Path.{_≡_};
 ghost use mathlib.Core.List.{[], _∷_};
 ghost use Rattle.grounds.specs.Grounds.{firstGround, fourLengths, assetsGround, screenGround};
-ghost use Rattle.grounds.specs.Grounds.{fillGrounds, rowGrounds, entriesGrounds, columnGrounds, shiftGrounds, lossGrounds, layerGrounds};
+ghost use Rattle.grounds.specs.Grounds.{fillGrounds, rowGrounds, entriesGrounds, columnGrounds, shiftGrounds, lossGrounds, layerGrounds, deskGrounds};
 ghost use Rattle.grounds.specs.Grounds.{betaPoolGrounds, betaColumnGrounds, betaLossGrounds};
 
 // 1 and 11: what the quote screen, which has a limit of its own, checks first.
@@ -95,6 +95,27 @@ pub fn layer_refusal(most: u32, n: u32, p: u32, rho: u32, i: u32, j: u32, length
     let of_layer = ground(14, (i == 0) | (i > j) | (j > n));
     let of_store = store_refusal(n, lengths);
     first(of_pool, first(of_layer, of_store))
+}
+
+// 1 to 3 on the head of a store, 7, then 15 by the numbers that are expected of it, 9 and 16.
+pub fn desk_refusal(
+    most: u32,
+    n: u32,
+    p: u32,
+    rho: u32,
+    expected_p: u32,
+    expected_rho: u32,
+    k: u32,
+    ceiling: u32,
+    lengths: Lengths,
+) -> u32
+    ensures { λ r. ⌜ r ≡ firstGround (deskGrounds most n p rho «expected_p» «expected_rho» k ceiling (fourLengths lengths)) ⌝ }
+{
+    let of_fill = fill_refusal(most, n, p, rho, lengths);
+    let of_head = ground(15, (p != expected_p) | (rho != expected_rho));
+    let of_row = ground(9, k > n);
+    let of_ceiling = ground(16, k > ceiling);
+    first(of_fill, first(of_head, first(of_row, of_ceiling)))
 }
 
 // 1 to 3 and 12.

@@ -37,12 +37,19 @@ fn column_reply(n: u32, p: u32, rho: u32) -> Reply
     let mut low_exponents = [0i32; STORE];
     let mut high_exponents = [0i32; STORE];
     let mut units = [0u32; ROWS];
+    let pool = Pool {
+        assets: n,
+        probability: p,
+        correlation: rho,
+    };
+    let empty = Pool {
+        assets: 0,
+        probability: 0,
+        correlation: 0,
+    };
     pool::column(
-        Pool {
-            assets: n,
-            probability: p,
-            correlation: rho,
-        },
+        pool,
+        empty,
         &mut low_significands,
         &mut high_significands,
         &mut low_exponents,

@@ -22,10 +22,10 @@ screenColumnRefusal pool s units =
 
 -- What a column call promises, by the screen's own list and distance; and save where the screen refuses by 11, what the library's call promises for the same inputs:
 -- the refusal, the store and the column are those of its definitions.
-pub record ScreenPrints (pool : Pool) (before after : Store) (units units′ : List ℕ) (refusal : ℕ) : Type 0 where
-  pub own : Prints screenColumnRefusal screenDistance pool before after units units′ refusal
+pub record ScreenPrints (pool head : Pool) (before after : Store) (units units′ : List ℕ) (refusal : ℕ) (head′ : Pool) : Type 0 where
+  pub own : Prints screenColumnRefusal screenDistance pool head before after units units′ refusal head′
   pub screens : Screens largestPool screenPool (pool .assets) (columnRefusal pool before units) refusal
-  pub library : (refusal ≡ 11 → ⊥) → Prints columnRefusal distanceFor pool before after units units′ refusal
+  pub library : (refusal ≡ 11 → ⊥) → Prints columnRefusal distanceFor pool head before after units units′ refusal head′
 
 -- ---- losses
 
@@ -34,7 +34,8 @@ screenLossRefusal pool tranches count s =
     firstGround (screenLossGrounds largestPool screenPool (pool .assets) (pool .probability) (pool .correlation) tranches count (lengths s))
 
 -- The same of a loss call.
-pub record ScreenReplies (pool : Pool) (tranches : List Tranche) (count : ℕ) (before after : Store) (refusal : ℕ) (losses : List LossAnswer) : Type 0 where
-  pub own : Replies screenLossRefusal screenDistance pool tranches count before after refusal losses
+pub record ScreenReplies (pool head : Pool) (tranches : List Tranche) (count : ℕ) (before after : Store) (refusal : ℕ) (head′ : Pool) (losses : List LossAnswer)
+    : Type 0 where
+  pub own : Replies screenLossRefusal screenDistance pool head tranches count before after refusal head′ losses
   pub screens : Screens largestPool screenPool (pool .assets) (lossRefusal pool tranches count before) refusal
-  pub library : (refusal ≡ 11 → ⊥) → Replies lossRefusal distanceFor pool tranches count before after refusal losses
+  pub library : (refusal ≡ 11 → ⊥) → Replies lossRefusal distanceFor pool head tranches count before after refusal head′ losses

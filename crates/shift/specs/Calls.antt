@@ -26,8 +26,8 @@ shiftRefusal pool s shifts =
     firstGround (shiftGrounds reportPool (pool .assets) (pool .probability) (pool .correlation) (lengths s) (length shifts))
 
 -- The store is that of the pool. Entry k of the list is the printed tail at k less that of the same pool at correlation 0.
-pub record ListsShifts (pool : Pool) (before after : Store) (shifts shifts′ : List ℤ) (refusal : ℕ) : Type 0 where
-  pub fills : Fills (shiftRefusal pool before shifts) distanceFor pool before after refusal
+pub record ListsShifts (pool head : Pool) (before after : Store) (shifts shifts′ : List ℤ) (refusal : ℕ) (head′ : Pool) : Type 0 where
+  pub fills : Fills (shiftRefusal pool before shifts) distanceFor pool head before after refusal head′
   -- What the steps make of the pool at correlation 0, which stands in no slice.
   pub uncorrelated-hold : refusal ≡ 0
       → HoldsSteps (distanceFor (pool .assets)) (defaults (pool .assets) (pool .probability) 0) (λ side. keptDefaults side (pool .assets) (pool .probability) 0)

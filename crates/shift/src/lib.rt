@@ -5,6 +5,7 @@ mod differences;
 use differences::print_shifts;
 use grounds::Lengths;
 use kept::Side;
+use pool::Filled;
 use pool::Pool;
 use steps::REPORT_POOL;
 use store::fill_both;
@@ -12,21 +13,23 @@ ghost use Rattle.store.specs.Stores.{store};
 ghost use Rattle.shift.specs.Calls.{ListsShifts};
 
 // Writes for k from 0 to n the printed tail at k less that of the same pool at correlation 0, and nothing behind them. The store is
-// filled on the way, for the pool's own correlation. Gives the number of a refusal, or 0.
+// filled on the way, for the pool's own correlation.
 pub fn shift_list(
     pool: Pool,
+    head: Pool,
     low_significands: &mut [u32],
     high_significands: &mut [u32],
     low_exponents: &mut [i32],
     high_exponents: &mut [i32],
     shifts: &mut [i32],
-) -> u32
-    ensures { λ r. ⌜ ListsShifts pool
+) -> Filled
+    ensures { λ r. ⌜ ListsShifts pool head
         (store (now («low_significands» .entry)) (now («high_significands» .entry)) (now («low_exponents» .entry)) (now («high_exponents» .entry)))
         (store (now («low_significands» .exit)) (now («high_significands» .exit)) (now («low_exponents» .exit)) (now («high_exponents» .exit)))
         (now (shifts .entry))
         (now (shifts .exit))
-        r ⌝ }
+        (r .refusal)
+        (r .head) ⌝ }
 {
     let refusal = refusals::shift_refusal(
         REPORT_POOL,
@@ -42,7 +45,7 @@ pub fn shift_list(
         shifts.len(),
     );
     if refusal != 0 {
-        return refusal;
+        return Filled { refusal, head };
     }
     let filled = fill_both(
         pool,
@@ -54,5 +57,8 @@ pub fn shift_list(
     let row = filled.low;
     let base = rows::last_row(pool.assets, pool.probability, 0, Side::Low);
     print_shifts(pool.assets, row, base, shifts);
-    0
+    Filled {
+        refusal: 0,
+        head: pool,
+    }
 }

@@ -18,21 +18,27 @@ use Rattle.store.specs.declared.Pool.{Pool}
 use Rattle.store.specs.Stores.{Store, lengths, place, storeAfter, HoldsEntries}
 pub mod Laws
 
--- Of every call that works the table out: it refuses by the number that its list of grounds gives, and leaves the store filled, or untouched on a refusal. With what
--- holds of a filled store, and of all that the steps make of the pool; bounds for k assets are at most one part in g k apart.
-pub record Fills (number : ℕ) (g : ℕ → ℕ) (pool : Pool) (before after : Store) (refusal : ℕ) : Type 0 where
+-- The refusal of `fill`. What it checks, every call that fills a store checks too.
+unfoldable pub fillRefusal : Pool → Store → ℕ
+fillRefusal pool s = firstGround (fillGrounds largestPool (pool .assets) (pool .probability) (pool .correlation) (lengths s))
+
+-- The head that a call which fills a store hands back: the pool where the refusal is 0, the head that came otherwise.
+unfoldable pub headAfter : (refusal : ℕ) (pool head : Pool) → Pool
+headAfter zero pool head = pool
+headAfter (suc r) pool head = head
+
+-- Of every call that works the table out: it refuses by the number that its list of grounds gives, and leaves the store filled, or untouched on a refusal; `head` came and
+-- `head′` is handed back. With what holds of a filled store, and of all that the steps make of the pool; bounds for k assets are at most one part in g k apart.
+pub record Fills (number : ℕ) (g : ℕ → ℕ) (pool head : Pool) (before after : Store) (refusal : ℕ) (head′ : Pool) : Type 0 where
   pub refusal-is : refusal ≡ number
   pub store-is : after ≡ storeAfter (pool .assets) (pool .probability) (pool .correlation) refusal before
+  pub head-is : head′ ≡ headAfter refusal pool head
+  pub accepted : refusal ≡ 0 → fillRefusal pool before ≡ 0
   pub holds : refusal ≡ 0 → HoldsEntries (pool .assets) (pool .probability) (pool .correlation) g after
   pub steps-hold : refusal ≡ 0
       → HoldsSteps (g (pool .assets)) (defaults (pool .assets) (pool .probability) (pool .correlation))
       (λ side. keptDefaults side (pool .assets) (pool .probability) (pool .correlation))
       (λ side. PoolNumber side (pool .assets) (pool .probability) (pool .correlation))
-
--- ---- fill
-
-unfoldable pub fillRefusal : Pool → Store → ℕ
-fillRefusal pool s = firstGround (fillGrounds largestPool (pool .assets) (pool .probability) (pool .correlation) (lengths s))
 
 -- ---- row
 

@@ -52,21 +52,29 @@ pub fn fill_both(
     LastRows { low, high }
 }
 
-// Fills the store with rows 0 to n, row k from place k(k+1)/2 on, and writes nothing behind them. Gives the number of a refusal,
-// or 0.
+// What a call that fills a store hands back: the number of a refusal, or 0, and the head of the store, which is the pool or, on a
+// refusal, the head that came.
+pub struct Filled {
+    pub refusal: u32,
+    pub head: Pool,
+}
+
+// Fills the store with rows 0 to n, row k from place k(k+1)/2 on, and writes nothing behind them.
 pub fn fill(
     pool: Pool,
+    head: Pool,
     low_significands: &mut [u32],
     high_significands: &mut [u32],
     low_exponents: &mut [i32],
     high_exponents: &mut [i32],
-) -> u32
+) -> Filled
     ensures { λ r. ⌜ Fills
         (fillRefusal pool (store (now («low_significands» .entry)) (now («high_significands» .entry)) (now («low_exponents» .entry)) (now («high_exponents» .entry))))
-        distanceFor pool
+        distanceFor pool head
         (store (now («low_significands» .entry)) (now («high_significands» .entry)) (now («low_exponents» .entry)) (now («high_exponents» .entry)))
         (store (now («low_significands» .exit)) (now («high_significands» .exit)) (now («low_exponents» .exit)) (now («high_exponents» .exit)))
-        r ⌝ }
+        (r .refusal)
+        (r .head) ⌝ }
 {
     let refusal = refusals::fill_refusal(
         LARGEST_POOL,
@@ -81,7 +89,7 @@ pub fn fill(
         },
     );
     if refusal != 0 {
-        return refusal;
+        return Filled { refusal, head };
     }
     fill_both(
         pool,
@@ -90,5 +98,8 @@ pub fn fill(
         low_exponents,
         high_exponents,
     );
-    0
+    Filled {
+        refusal: 0,
+        head: pool,
+    }
 }

@@ -1,7 +1,10 @@
 // The calls under C names, for the programs of tools/random_calls. Numbers pass as themselves, a slice as a pointer and a length, an
 // array, and a number that is written, by a pointer.
 use column_check::Verdict;
+use desk::Request;
+use kept::Kept;
 use pool::Answer;
+use pool::Filled;
 use pool::Loss;
 use pool::Pool;
 use pool::TRANCHES;
@@ -12,6 +15,9 @@ const RECORDS: usize = 24;
 
 // The entries of the longest row.
 const ROWS: usize = 101;
+
+// The numbers of a head: assets, probability and correlation.
+const HEAD: usize = 3;
 
 // A loss of an answer: a kind, 0 untouched, 1 faint, 2 shown, and up to two numbers. Where there is none, it is 0.
 struct Numbers {
@@ -26,6 +32,23 @@ fn pool_of(assets: u32, probability: u32, correlation: u32) -> Pool {
         probability,
         correlation,
     }
+}
+
+fn head_of(head: &[u32; HEAD]) -> Pool {
+    pool_of(head[0], head[1], head[2])
+}
+
+// Writes the head that a call handed back.
+fn write_head(handed: Pool, head: &mut [u32; HEAD]) {
+    head[0] = handed.assets;
+    head[1] = handed.probability;
+    head[2] = handed.correlation;
+}
+
+// Writes the head, and gives the number of the refusal, or 0.
+fn write_filled(filled: Filled, head: &mut [u32; HEAD]) -> u32 {
+    write_head(filled.head, head);
+    filled.refusal
 }
 
 fn tranche_of(recovery: u32, lower: u32, upper: u32) -> Tranche {
@@ -93,18 +116,21 @@ pub extern "C" fn trial_fill(
     assets: u32,
     probability: u32,
     correlation: u32,
+    head: &mut [u32; HEAD],
     low_significands: &mut [u32],
     high_significands: &mut [u32],
     low_exponents: &mut [i32],
     high_exponents: &mut [i32],
 ) -> u32 {
-    pool::fill(
+    let filled = pool::fill(
         pool_of(assets, probability, correlation),
+        head_of(head),
         low_significands,
         high_significands,
         low_exponents,
         high_exponents,
-    )
+    );
+    write_filled(filled, head)
 }
 
 fn put(copy: &mut [u32; ROWS], i: usize, x: u32) {
@@ -135,20 +161,23 @@ pub extern "C" fn trial_column(
     assets: u32,
     probability: u32,
     correlation: u32,
+    head: &mut [u32; HEAD],
     low_significands: &mut [u32],
     high_significands: &mut [u32],
     low_exponents: &mut [i32],
     high_exponents: &mut [i32],
     units: &mut [u32],
 ) -> u32 {
-    pool::column(
+    let filled = pool::column(
         pool_of(assets, probability, correlation),
+        head_of(head),
         low_significands,
         high_significands,
         low_exponents,
         high_exponents,
         units,
-    )
+    );
+    write_filled(filled, head)
 }
 
 #[no_mangle]
@@ -156,20 +185,23 @@ pub extern "C" fn trial_screen_column(
     assets: u32,
     probability: u32,
     correlation: u32,
+    head: &mut [u32; HEAD],
     low_significands: &mut [u32],
     high_significands: &mut [u32],
     low_exponents: &mut [i32],
     high_exponents: &mut [i32],
     units: &mut [u32],
 ) -> u32 {
-    screen::column(
+    let filled = screen::column(
         pool_of(assets, probability, correlation),
+        head_of(head),
         low_significands,
         high_significands,
         low_exponents,
         high_exponents,
         units,
-    )
+    );
+    write_filled(filled, head)
 }
 
 #[no_mangle]
@@ -177,20 +209,23 @@ pub extern "C" fn trial_shift_list(
     assets: u32,
     probability: u32,
     correlation: u32,
+    head: &mut [u32; HEAD],
     low_significands: &mut [u32],
     high_significands: &mut [u32],
     low_exponents: &mut [i32],
     high_exponents: &mut [i32],
     shifts: &mut [i32],
 ) -> u32 {
-    shift::shift_list(
+    let filled = shift::shift_list(
         pool_of(assets, probability, correlation),
+        head_of(head),
         low_significands,
         high_significands,
         low_exponents,
         high_exponents,
         shifts,
-    )
+    );
+    write_filled(filled, head)
 }
 
 #[no_mangle]
@@ -208,6 +243,7 @@ pub extern "C" fn trial_losses(
     assets: u32,
     probability: u32,
     correlation: u32,
+    head: &mut [u32; HEAD],
     records: &[u32; RECORDS],
     count: u32,
     low_significands: &mut [u32],
@@ -218,8 +254,9 @@ pub extern "C" fn trial_losses(
     firsts: &mut [f64; TRANCHES],
     seconds: &mut [f64; TRANCHES],
 ) -> u32 {
-    let answer = pool::tranche_losses(
+    let filled = pool::tranche_losses(
         pool_of(assets, probability, correlation),
+        head_of(head),
         tranches_of(records),
         count,
         low_significands,
@@ -227,7 +264,8 @@ pub extern "C" fn trial_losses(
         low_exponents,
         high_exponents,
     );
-    write_answer(answer, kinds, firsts, seconds)
+    write_head(filled.head, head);
+    write_answer(filled.answer, kinds, firsts, seconds)
 }
 
 #[no_mangle]
@@ -235,6 +273,7 @@ pub extern "C" fn trial_screen_losses(
     assets: u32,
     probability: u32,
     correlation: u32,
+    head: &mut [u32; HEAD],
     records: &[u32; RECORDS],
     count: u32,
     low_significands: &mut [u32],
@@ -245,8 +284,9 @@ pub extern "C" fn trial_screen_losses(
     firsts: &mut [f64; TRANCHES],
     seconds: &mut [f64; TRANCHES],
 ) -> u32 {
-    let answer = screen::tranche_losses(
+    let filled = screen::tranche_losses(
         pool_of(assets, probability, correlation),
+        head_of(head),
         tranches_of(records),
         count,
         low_significands,
@@ -254,7 +294,8 @@ pub extern "C" fn trial_screen_losses(
         low_exponents,
         high_exponents,
     );
-    write_answer(answer, kinds, firsts, seconds)
+    write_head(filled.head, head);
+    write_answer(filled.answer, kinds, firsts, seconds)
 }
 
 #[no_mangle]
@@ -279,6 +320,7 @@ pub extern "C" fn trial_layer_loss(
     assets: u32,
     probability: u32,
     correlation: u32,
+    head: &mut [u32; HEAD],
     i: u32,
     j: u32,
     low_significands: &mut [u32],
@@ -289,8 +331,9 @@ pub extern "C" fn trial_layer_loss(
     first: &mut f64,
     second: &mut f64,
 ) -> u32 {
-    let answer = pool::layer_loss(
+    let filled = pool::layer_loss(
         pool_of(assets, probability, correlation),
+        head_of(head),
         i,
         j,
         low_significands,
@@ -298,6 +341,8 @@ pub extern "C" fn trial_layer_loss(
         low_exponents,
         high_exponents,
     );
+    write_head(filled.head, head);
+    let answer = filled.answer;
     let loss = answer.loss;
     let numbers = numbers_of(loss);
     *kind = numbers.kind;
@@ -329,6 +374,7 @@ pub extern "C" fn trial_check_column(
     assets: u32,
     probability: u32,
     correlation: u32,
+    head: &mut [u32; HEAD],
     claims: &[u32],
     low_significands: &mut [u32],
     high_significands: &mut [u32],
@@ -336,15 +382,67 @@ pub extern "C" fn trial_check_column(
     high_exponents: &mut [i32],
     number: &mut u32,
 ) -> u32 {
-    let verdict = column_check::check_column(
+    let filled = column_check::check_column(
         pool_of(assets, probability, correlation),
+        head_of(head),
         claims,
         low_significands,
         high_significands,
         low_exponents,
         high_exponents,
     );
+    let verdict = filled.verdict;
+    write_head(filled.head, head);
     write_verdict(verdict, number)
+}
+
+// Writes the parts of a row's kept numbers.
+fn write_row(row: [Kept; ROWS], significands: &mut [u32; ROWS], exponents: &mut [i32; ROWS]) {
+    for i in 0..ROWS {
+        let entry = row[i];
+        let exponent = entry.exponent;
+        significands[i] = entry.significand;
+        exponents[i] = exponent;
+    }
+}
+
+// Writes the row on either side, and gives the number of the refusal, or 0.
+#[no_mangle]
+pub extern "C" fn trial_read(
+    assets: u32,
+    probability: u32,
+    correlation: u32,
+    expected_probability: u32,
+    expected_correlation: u32,
+    row: u32,
+    ceiling: u32,
+    low_significands: &[u32],
+    high_significands: &[u32],
+    low_exponents: &[i32],
+    high_exponents: &[i32],
+    low_row_significands: &mut [u32; ROWS],
+    high_row_significands: &mut [u32; ROWS],
+    low_row_exponents: &mut [i32; ROWS],
+    high_row_exponents: &mut [i32; ROWS],
+) -> u32 {
+    let answer = desk::read(
+        pool_of(assets, probability, correlation),
+        Request {
+            probability: expected_probability,
+            correlation: expected_correlation,
+            row,
+        },
+        ceiling,
+        low_significands,
+        high_significands,
+        low_exponents,
+        high_exponents,
+    );
+    let low = answer.low;
+    let high = answer.high;
+    write_row(low, low_row_significands, low_row_exponents);
+    write_row(high, high_row_significands, high_row_exponents);
+    answer.refusal
 }
 
 // The reply of the program `column` to an input, and its length.

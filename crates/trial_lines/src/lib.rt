@@ -59,7 +59,7 @@ pub fn write_length(n: usize) {
     write_number(n as u64);
 }
 
-fn write_pool(pool: Pool) {
+pub fn write_pool(pool: Pool) {
     write_field(pool.assets);
     write_field(pool.probability);
     write_field(pool.correlation);
@@ -117,7 +117,7 @@ fn write_call(call: Call, pool: Pool) {
     }
 }
 
-fn write_store_lengths(lengths: Lengths) {
+pub fn write_store_lengths(lengths: Lengths) {
     write(b" lengths");
     write_length(lengths.0);
     write_length(lengths.1);
@@ -230,13 +230,28 @@ pub fn write_refusal(refusal: u32) {
     write_field(refusal);
 }
 
+pub fn write_head(head: Pool) {
+    write(b" head");
+    write_pool(head);
+}
+
+// The head that a call handed back, if it is not the one that is wanted.
+pub fn write_wrong_head(head: Pool, wanted: Pool) {
+    if (head.assets != wanted.assets)
+        | (head.probability != wanted.probability)
+        | (head.correlation != wanted.correlation)
+    {
+        write_head(head);
+    }
+}
+
 fn write_signed(n: i32) {
     write(b" ");
     write_integer(n);
 }
 
 // The naturals, then the integers.
-fn write_numbers(naturals: &[u32], integers: &[i32]) {
+pub fn write_numbers(naturals: &[u32], integers: &[i32]) {
     let count = naturals.len();
     for i in 0..count + integers.len() {
         if i < count {

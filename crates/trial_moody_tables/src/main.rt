@@ -179,7 +179,8 @@ fn losses(assets: u32, probability: u32, correlation: u32, lower: u32, upper: u3
     let junior = tranche_of(lower, upper);
     let mut tranches = [junior; TRANCHES];
     tranches[0] = senior;
-    let answer = pool::tranche_losses(
+    let filled = pool::tranche_losses(
+        pool,
         pool,
         tranches,
         2,
@@ -188,6 +189,7 @@ fn losses(assets: u32, probability: u32, correlation: u32, lower: u32, upper: u3
         &mut low_exponents,
         &mut high_exponents,
     );
+    let answer = filled.answer;
     let losses = answer.losses;
     write_loss(pool, senior, losses[0]);
     write_loss(pool, junior, losses[1]);

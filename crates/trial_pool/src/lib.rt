@@ -1,6 +1,9 @@
 // Runs a call on lent slices and prints its line. The slices are the first places of the arrays, so that a write behind them is
 // seen.
+use column_check::Verdict;
 use pool::Answer;
+use pool::Filled;
+use pool::FilledLosses;
 use pool::Pool;
 use pool::TRANCHES;
 use pool::Tranche;
@@ -25,6 +28,7 @@ use trial_lines::write_row;
 use trial_lines::write_shifts;
 use trial_lines::write_store;
 use trial_lines::write_verdict;
+use trial_lines::write_wrong_head;
 use trial_support::write;
 use trial_support::write_field;
 
@@ -55,18 +59,53 @@ fn first_integers(places: &mut [i32], count: usize) -> &mut [i32] {
     }
 }
 
+// The pool that a call is given, and the head of the store that it is lent.
+pub struct Given {
+    pub pool: Pool,
+    pub head: Pool,
+}
+
+// With a head that no call handed back.
+fn with_marks(pool: Pool) -> Given {
+    Given {
+        pool,
+        head: pool_of(MARK, MARK + 1, MARK + 2),
+    }
+}
+
+// The head that a call has to hand back: the pool, or on a refusal the one that came.
+fn head_after(given: Given, refusal: u32) -> Pool {
+    if refusal == 0 { given.pool } else { given.head }
+}
+
+// The same of a call that is lent no store.
+fn no_store(given: Given, refusal: u32) -> Filled {
+    Filled {
+        refusal,
+        head: head_after(given, refusal),
+    }
+}
+
+fn no_store_losses(given: Given, answer: Answer) -> FilledLosses {
+    FilledLosses {
+        answer,
+        head: head_after(given, answer.refusal),
+    }
+}
+
 fn column(
     library: Library,
-    pool: Pool,
+    given: Given,
     low_significands: &mut [u32],
     high_significands: &mut [u32],
     low_exponents: &mut [i32],
     high_exponents: &mut [i32],
     units: &mut [u32],
-) -> u32 {
+) -> Filled {
     match library {
         Library::Pool => pool::column(
-            pool,
+            given.pool,
+            given.head,
             low_significands,
             high_significands,
             low_exponents,
@@ -74,30 +113,32 @@ fn column(
             units,
         ),
         Library::Screen => screen::column(
-            pool,
+            given.pool,
+            given.head,
             low_significands,
             high_significands,
             low_exponents,
             high_exponents,
             units,
         ),
-        Library::BetaBinomial => beta_binomial::column(pool, units),
+        Library::BetaBinomial => no_store(given, beta_binomial::column(given.pool, units)),
     }
 }
 
 fn losses(
     library: Library,
-    pool: Pool,
+    given: Given,
     tranches: [Tranche; TRANCHES],
     count: u32,
     low_significands: &mut [u32],
     high_significands: &mut [u32],
     low_exponents: &mut [i32],
     high_exponents: &mut [i32],
-) -> Answer {
+) -> FilledLosses {
     match library {
         Library::Pool => pool::tranche_losses(
-            pool,
+            given.pool,
+            given.head,
             tranches,
             count,
             low_significands,
@@ -106,7 +147,8 @@ fn losses(
             high_exponents,
         ),
         Library::Screen => screen::tranche_losses(
-            pool,
+            given.pool,
+            given.head,
             tranches,
             count,
             low_significands,
@@ -114,45 +156,96 @@ fn losses(
             low_exponents,
             high_exponents,
         ),
-        Library::BetaBinomial => beta_binomial::tranche_losses(pool, tranches, count),
+        Library::BetaBinomial => no_store_losses(
+            given,
+            beta_binomial::tranche_losses(given.pool, tranches, count),
+        ),
     }
+}
+
+fn answer_fill(
+    given: Given,
+    low_significands: &mut [u32],
+    high_significands: &mut [u32],
+    low_exponents: &mut [i32],
+    high_exponents: &mut [i32],
+) -> Filled {
+    let filled = pool::fill(
+        given.pool,
+        given.head,
+        low_significands,
+        high_significands,
+        low_exponents,
+        high_exponents,
+    );
+    write_refusal(filled.refusal);
+    filled
+}
+
+fn answer_row(given: Given, k: u32, low_significands: &[u32]) -> Filled {
+    let n = given.pool.assets;
+    write_row(pool::row(n, k, low_significands));
+    no_store(given, pool::row_refusal(n, k, low_significands))
 }
 
 fn answer_column(
     library: Library,
-    pool: Pool,
+    given: Given,
     length: usize,
     low_significands: &mut [u32],
     high_significands: &mut [u32],
     low_exponents: &mut [i32],
     high_exponents: &mut [i32],
-) {
+) -> Filled {
     let mut units = [MARK; LARGE_ROWS];
-    let refusal = column(
+    let filled = column(
         library,
-        pool,
+        given,
         low_significands,
         high_significands,
         low_exponents,
         high_exponents,
         first_naturals(&mut units, length),
     );
-    write_column(pool, refusal, &units, length);
+    write_column(given.pool, filled.refusal, &units, length);
+    filled
+}
+
+fn answer_shifts(
+    given: Given,
+    length: usize,
+    low_significands: &mut [u32],
+    high_significands: &mut [u32],
+    low_exponents: &mut [i32],
+    high_exponents: &mut [i32],
+) -> Filled {
+    let mut shifts = [INTEGER_MARK; LARGE_ROWS];
+    let filled = shift::shift_list(
+        given.pool,
+        given.head,
+        low_significands,
+        high_significands,
+        low_exponents,
+        high_exponents,
+        first_integers(&mut shifts, length),
+    );
+    write_shifts(given.pool, filled.refusal, &shifts, length);
+    filled
 }
 
 fn answer_losses(
     library: Library,
-    pool: Pool,
+    given: Given,
     tranches: Tranches,
     low_significands: &mut [u32],
     high_significands: &mut [u32],
     low_exponents: &mut [i32],
     high_exponents: &mut [i32],
-) {
+) -> Filled {
     let count = tranches.count;
-    let answer = losses(
+    let filled = losses(
         library,
-        pool,
+        given,
         array_of(tranches.records),
         count,
         low_significands,
@@ -160,70 +253,89 @@ fn answer_losses(
         low_exponents,
         high_exponents,
     );
+    let answer = filled.answer;
+    let head = filled.head;
     write_answer(answer, count);
+    Filled {
+        refusal: answer.refusal,
+        head,
+    }
 }
 
-fn answer_shifts(
-    pool: Pool,
-    length: usize,
+fn answer_layer(
+    given: Given,
+    i: u32,
+    j: u32,
     low_significands: &mut [u32],
     high_significands: &mut [u32],
     low_exponents: &mut [i32],
     high_exponents: &mut [i32],
-) {
-    let mut shifts = [INTEGER_MARK; LARGE_ROWS];
-    let refusal = shift::shift_list(
-        pool,
+) -> Filled {
+    let filled = pool::layer_loss(
+        given.pool,
+        given.head,
+        i,
+        j,
         low_significands,
         high_significands,
         low_exponents,
         high_exponents,
-        first_integers(&mut shifts, length),
     );
-    write_shifts(pool, refusal, &shifts, length);
+    let answer = filled.answer;
+    let head = filled.head;
+    write_layer(answer);
+    Filled {
+        refusal: answer.refusal,
+        head,
+    }
+}
+
+fn refusal_of(verdict: Verdict) -> u32 {
+    match verdict {
+        Verdict::Refused(refusal) => refusal,
+        _ => 0,
+    }
 }
 
 fn answer_check(
-    pool: Pool,
+    given: Given,
     claims: &[u32],
     low_significands: &mut [u32],
     high_significands: &mut [u32],
     low_exponents: &mut [i32],
     high_exponents: &mut [i32],
-) {
-    let verdict = column_check::check_column(
-        pool,
+) -> Filled {
+    let filled = column_check::check_column(
+        given.pool,
+        given.head,
         claims,
         low_significands,
         high_significands,
         low_exponents,
         high_exponents,
     );
+    let verdict = filled.verdict;
+    let head = filled.head;
     write_verdict(verdict, claims);
+    Filled {
+        refusal: refusal_of(verdict),
+        head,
+    }
 }
 
-// Makes a call that each library has, and writes what it answers.
-fn answer_library(
+// Makes a call for losses and writes what it answers.
+fn answer_loss(
     call: Call,
-    pool: Pool,
+    given: Given,
     low_significands: &mut [u32],
     high_significands: &mut [u32],
     low_exponents: &mut [i32],
     high_exponents: &mut [i32],
-) {
+) -> Filled {
     match call {
-        Call::Column(library, length) => answer_column(
-            library,
-            pool,
-            length,
-            low_significands,
-            high_significands,
-            low_exponents,
-            high_exponents,
-        ),
         Call::Loss(library, tranche) => answer_losses(
             library,
-            pool,
+            given,
             one(tranche),
             low_significands,
             high_significands,
@@ -232,64 +344,57 @@ fn answer_library(
         ),
         Call::Losses(library, tranches) => answer_losses(
             library,
-            pool,
+            given,
             tranches,
             low_significands,
             high_significands,
             low_exponents,
             high_exponents,
         ),
-        _ => write(b""),
-    }
-}
-
-// Makes a call and writes what it answers.
-fn answer(
-    call: Call,
-    pool: Pool,
-    claims: &[u32],
-    low_significands: &mut [u32],
-    high_significands: &mut [u32],
-    low_exponents: &mut [i32],
-    high_exponents: &mut [i32],
-) {
-    match call {
-        Call::Fill => write_refusal(pool::fill(
-            pool,
-            low_significands,
-            high_significands,
-            low_exponents,
-            high_exponents,
-        )),
-        Call::Row(k) => write_row(pool::row(pool.assets, k, low_significands)),
-        Call::Shifts(length) => answer_shifts(
-            pool,
-            length,
-            low_significands,
-            high_significands,
-            low_exponents,
-            high_exponents,
-        ),
-        Call::Layer(i, j) => write_layer(pool::layer_loss(
-            pool,
+        Call::Layer(i, j) => answer_layer(
+            given,
             i,
             j,
             low_significands,
             high_significands,
             low_exponents,
             high_exponents,
-        )),
-        Call::Check => answer_check(
-            pool,
-            claims,
+        ),
+        _ => no_store(given, 0),
+    }
+}
+
+// Makes a call that needs no claims and writes what it answers.
+fn answer_pool(
+    call: Call,
+    given: Given,
+    low_significands: &mut [u32],
+    high_significands: &mut [u32],
+    low_exponents: &mut [i32],
+    high_exponents: &mut [i32],
+) -> Filled {
+    match call {
+        Call::Row(k) => answer_row(given, k, low_significands),
+        Call::Column(library, length) => answer_column(
+            library,
+            given,
+            length,
             low_significands,
             high_significands,
             low_exponents,
             high_exponents,
         ),
-        _ => answer_library(
+        Call::Shifts(length) => answer_shifts(
+            given,
+            length,
+            low_significands,
+            high_significands,
+            low_exponents,
+            high_exponents,
+        ),
+        _ => answer_loss(
             call,
-            pool,
+            given,
             low_significands,
             high_significands,
             low_exponents,
@@ -298,7 +403,67 @@ fn answer(
     }
 }
 
-// Runs a call on arrays that hold another pool's store. A pool of no assets is refused, and leaves the marks.
+// Makes a call and writes what it answers.
+fn answer(
+    call: Call,
+    given: Given,
+    claims: &[u32],
+    low_significands: &mut [u32],
+    high_significands: &mut [u32],
+    low_exponents: &mut [i32],
+    high_exponents: &mut [i32],
+) -> Filled {
+    match call {
+        Call::Fill => answer_fill(
+            given,
+            low_significands,
+            high_significands,
+            low_exponents,
+            high_exponents,
+        ),
+        Call::Check => answer_check(
+            given,
+            claims,
+            low_significands,
+            high_significands,
+            low_exponents,
+            high_exponents,
+        ),
+        _ => answer_pool(
+            call,
+            given,
+            low_significands,
+            high_significands,
+            low_exponents,
+            high_exponents,
+        ),
+    }
+}
+
+// The same on the first places of arrays.
+pub fn answer_on(
+    call: Call,
+    given: Given,
+    claims: &[u32],
+    lengths: Lengths,
+    low_significands: &mut [u32],
+    high_significands: &mut [u32],
+    low_exponents: &mut [i32],
+    high_exponents: &mut [i32],
+) -> Filled {
+    answer(
+        call,
+        given,
+        claims,
+        first_naturals(low_significands, lengths.0),
+        first_naturals(high_significands, lengths.1),
+        first_integers(low_exponents, lengths.2),
+        first_integers(high_exponents, lengths.3),
+    )
+}
+
+// Runs a call on arrays that hold another pool's store, and looks at the head that it hands back. A pool of no assets is refused,
+// and leaves the marks.
 fn run_on(other: Pool, call: Call, pool: Pool, claims: &[u32], lengths: Lengths) {
     let mut low_significands = [MARK; LARGE_PLACES];
     let mut high_significands = [MARK; LARGE_PLACES];
@@ -306,21 +471,25 @@ fn run_on(other: Pool, call: Call, pool: Pool, claims: &[u32], lengths: Lengths)
     let mut high_exponents = [INTEGER_MARK; LARGE_PLACES];
     pool::fill(
         other,
+        other,
         &mut low_significands,
         &mut high_significands,
         &mut low_exponents,
         &mut high_exponents,
     );
     write_given(other, call, pool, lengths);
-    answer(
+    let given = with_marks(pool);
+    let filled = answer_on(
         call,
-        pool,
+        given,
         claims,
-        first_naturals(&mut low_significands, lengths.0),
-        first_naturals(&mut high_significands, lengths.1),
-        first_integers(&mut low_exponents, lengths.2),
-        first_integers(&mut high_exponents, lengths.3),
+        lengths,
+        &mut low_significands,
+        &mut high_significands,
+        &mut low_exponents,
+        &mut high_exponents,
     );
+    write_wrong_head(filled.head, head_after(given, filled.refusal));
     write_store(
         call,
         lengths,
@@ -391,6 +560,7 @@ pub fn filled_rows(pool: Pool, count: u32) {
     let mut low_exponents = [INTEGER_MARK; LARGE_PLACES];
     let mut high_exponents = [INTEGER_MARK; LARGE_PLACES];
     pool::fill(
+        pool,
         pool,
         &mut low_significands,
         &mut high_significands,

@@ -1,6 +1,6 @@
 -- `check_column` meets its contract.
 -- Assumes nothing.
-use mathlib.Core.Path.{_≡_, sym, _∙_}
+use mathlib.Core.Path.{_≡_, refl, sym, _∙_}
 use borrow.Author.Needs.{needs}
 use native.Mathlib.Omega.{arith}
 use lib.Dec.{lit<}
@@ -52,9 +52,10 @@ returns-2 c =
     let else1 = filled .before .before .before .before .before in
     let rows = filled .fill-both .ensures in
     let pool = else1 .before .before .before .before .before .args .pool in
-    checks-answered (accepted else1 .fill .pool .range) (sym (goes-on else1) ∙ number-is (else1 .before)) (rows .store-is)
+    checks-answered (accepted else1 .fill) (sym (goes-on else1) ∙ number-is (else1 .before)) (rows .store-is)
     (c .check-rows .ensures .verdict-is (λ side. keptRow side (pool .probability) (pool .correlation) (pool .assets))
     (record { on-low = rows .low-row; on-high = rows .high-row }))
+    refl
 
 pub check-column-spec : {M : Type 1} → statement M
 check-column-spec =

@@ -1,12 +1,12 @@
 -- The contract of the check implies what is demanded of it.
 -- Assumes nothing.
 use Prim.Native.Nat.{ℕ, _+_, _-_, _*_, _/_, _≤_}
-use mathlib.Core.Path.{_≡_, refl, sym, ap, _∙_}
+use mathlib.Core.Path.{_≡_, refl, sym, _∙_}
 use mathlib.Core.List.{List}
 use native.Mathlib.Decide.{decLe}
 use native.Mathlib.Nat.{div-eq-of-lt}
 use native.Mathlib.Omega.{arith}
-use lib.Dec.{lit<, lit≤}
+use lib.Dec.{lit≤}
 use Rattle.model.specs.Fraction.{Fraction, AtMost, certainty, integer, plus, minus}
 use Rattle.model.specs.Fraction.Laws.{at-most-refl, at-most-trans, plus-mono}
 use Rattle.model.specs.Chances.{Chances, Complete, chance}
@@ -28,9 +28,9 @@ use Rattle.steps.specs.Inputs.Laws.{up-to-both}
 use Rattle.steps.specs.Promises.{RowEnclosed, HoldsVerdict}
 use Rattle.steps.specs.CorrelatedBinomial.Theorems.{within}
 use Rattle.grounds.specs.Grounds.{columnGrounds}
-use Rattle.grounds.specs.Grounds.Laws.{entries-accepted}
 use Rattle.store.specs.declared.Pool.{Pool}
 use Rattle.store.specs.Stores.{Store, lengths}
+use Rattle.store.specs.Calls.Laws.{fills-accepted}
 use Rattle.pool.specs.Calls.{columnRefusal}
 use Rattle.pool.specs.Demands.{partsFor, oneHalf, oneAndAHalf, twoAndAHalf, claimOff, NoFurther, ClaimPasses, nearestTo, refusalOf, VerdictSays, VerdictDemands, CheckDemands}
 use Rattle.pool.specs.Demands.Theorems.{slices, store-kept, store-meets}
@@ -120,17 +120,16 @@ module _ {r : Chances} {c : Side → ℕ → Kept} {claims : List ℕ} {number :
         apart-meets (apart-weaken (off-within (r .assets) (enclosed .chances l) (chance-at-most-one r complete l)) (holds .passed-row k l (passes-of passed)));
   }
 
-pub check-meets : {pool : Pool} {claims : List ℕ} {before after : Store} {verdict : Verdict} → Checks pool claims before after verdict
-    → CheckDemands pool claims (slices before) (slices after) verdict
+pub check-meets : {pool head head′ : Pool} {claims : List ℕ} {before after : Store} {verdict : Verdict} → Checks pool head claims before after verdict head′
+    → CheckDemands pool head claims (slices before) (slices after) verdict head′
 unfolding defaults columnRefusal columnGrounds lengths largestPool upTo finePool distanceFor partsFor
 check-meets {verdict} checks =
     let fills = rw (refusal-meets verdict) at (checks .fills) in
-    let accepted = entries-accepted 8 largestPool _ _ _ _ _ (lit< tt) (fills .refusal-is) in
     record {
-      one = record { number = fills .refusal-is; untouched = λ some. ap slices (store-kept fills some) };
-      store = store-meets fills (λ none. accepted none .fill .store);
+      one = record { number = fills .refusal-is; untouched = store-kept fills };
+      store = store-meets fills;
       answer = λ none.
           let zero = sym (fills .refusal-is) ∙ none in
-          verdict-meets zero verdict (within (accepted none .fill .pool .range) .complete) (fills .steps-hold none .enclosed) (checks .checks .means)
+          verdict-meets zero verdict (within (fills-accepted fills none .pool .range) .complete) (fills .steps-hold none .enclosed) (checks .checks .means)
           (checks .checks .holds-verdict zero);
     }

@@ -30,7 +30,7 @@ use Rattle.steps.specs.CorrelatedBinomial.Theorems.{within, placed, pool-budget
 use Rattle.chances.specs.Chances.{OnSides}
 use Rattle.claims.specs.Check.{CheckReady}
 use Rattle.claims.specs.Check.Ready.{check-ready}
-use Rattle.grounds.specs.Grounds.{firstGround, fillGrounds, entriesGround, entriesGrounds, columnGrounds}
+use Rattle.grounds.specs.Grounds.{firstGround, fillGrounds, entriesGround, entriesGrounds, columnGrounds, FillAccepted}
 use Rattle.store.specs.declared.Pool.{Pool}
 use Rattle.store.specs.Stores.{Store, lengths, storeAfter}
 use Rattle.store.specs.Calls.Laws.{fills-untouched, fills-filled, fills-once}
@@ -68,19 +68,22 @@ check-is-ready {n} range rows claimed =
 
 -- ---- the call
 
-module _ {pool : Pool} {claims : List ℕ} {before : Store} where
-  pub checks-refused : {refusal : ℕ} → (refusal ≡ 0 → ⊥) → refusal ≡ columnRefusal pool before claims → Checks pool claims before before (Refused refusal)
+module _ {pool head : Pool} {claims : List ℕ} {before : Store} where
+  pub checks-refused : {refusal : ℕ} → (refusal ≡ 0 → ⊥) → refusal ≡ columnRefusal pool before claims → Checks pool head claims before before (Refused refusal) head
   unfolding refusalIn
   checks-refused some is = record { fills = fills-untouched some is; checks = row-refused some is }
 
-  pub checks-answered : {after : Store} {verdict : Verdict} → InRange largestPool (pool .assets) (pool .probability) (pool .correlation) → 0 ≡ columnRefusal pool before claims
+  pub checks-answered : {after : Store} {verdict : Verdict} {head′ : Pool}
+      → FillAccepted largestPool (pool .assets) (pool .probability) (pool .correlation) (lengths before) → 0 ≡ columnRefusal pool before claims
       → after ≡ storeAfter (pool .assets) (pool .probability) (pool .correlation) 0 before
-      → verdict ≡ verdictOn (pool .assets) (λ side. keptDefaults side (pool .assets) (pool .probability) (pool .correlation)) claims → Checks pool claims before after verdict
+      → verdict ≡ verdictOn (pool .assets) (λ side. keptDefaults side (pool .assets) (pool .probability) (pool .correlation)) claims
+      → head′ ≡ pool → Checks pool head claims before after verdict head′
   unfolding defaults
-  checks-answered {verdict} range none filled is =
+  checks-answered {verdict} given none filled is new =
+      let range = given .pool .range in
       let accepted : refusalIn verdict ≡ 0 = ap refusalIn is ∙ verdict-number (pool .assets) _ claims in
       record {
-        fills = rw accepted (fills-filled range none filled);
+        fills = rw accepted (fills-filled given none filled new);
         checks = row-checked (steps-hold range (pool-budgets (range .assets)) .enclosed) none is;
       }
 
@@ -106,13 +109,15 @@ refusal-alike pool s claims other alike =
     (short-alike (pool .assets) claims other alike)
 
 -- What meets the contract for the same inputs is the same, whatever stands behind row n of the claim.
-pub checks-alone : {pool : Pool} {claims other : List ℕ} {before after after′ : Store} {verdict verdict′ : Verdict}
-    → take (suc (pool .assets)) claims ≡ take (suc (pool .assets)) other → Checks pool claims before after verdict → Checks pool other before after′ verdict′
-    → (verdict ≡ verdict′) × (after ≡ after′)
+pub checks-alone : {pool head head₁ head₂ : Pool} {claims other : List ℕ} {before after after′ : Store} {verdict verdict′ : Verdict}
+    → take (suc (pool .assets)) claims ≡ take (suc (pool .assets)) other → Checks pool head claims before after verdict head₁
+    → Checks pool head other before after′ verdict′ head₂ → (verdict ≡ verdict′) × (after ≡ after′) × (head₁ ≡ head₂)
 unfolding defaults
 checks-alone {pool} {claims} {other} {before} alike one two =
-    let number = refusal-alike pool before claims other alike in (
+    let number = refusal-alike pool before claims other alike in
+    let same = fills-once number (one .fills) (two .fills) in (
       one .checks .verdict-is ∙ verdict-alone (pool .assets) _ claims other alike _
           ∙ ap (verdictAfter (pool .assets) _ other) number ∙ sym (two .checks .verdict-is),
-      fills-once number (one .fills) (two .fills) .1,
+      same .1,
+      same .2,
     )

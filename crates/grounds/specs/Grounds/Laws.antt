@@ -1,5 +1,5 @@
--- The first ground of two lists, what the inputs of an accepted call are, that tranches past the count play no part, when a column is answered, and when the
--- screen and the beta-binomial refuse as the library.
+-- The first ground of two lists, what the inputs of an accepted call are, that tranches past the count play no part, when a fill, a column and a desk are answered, by
+-- what a desk is refused, and when the screen and the beta-binomial refuse as the library.
 -- Assumes nothing.
 use Prim.Native.Nat.{ℕ, zero, suc, _+_, _*_, _≤_, _<_}
 use mathlib.Core.Path.{_≡_, refl, sym, ap, subst, _∙_}
@@ -7,7 +7,7 @@ use mathlib.Core.Bool.{Bool, true, false, cond, not, _&&_, _||_, true≢false}
 use mathlib.Core.List.{List, [], _∷_, _++_}
 use native.Mathlib.Nat.{le-trans, mul-le-mul}
 use native.Mathlib.Omega.{arith}
-use borrow.Author.Tests.{ltb-false, eqb-false, not-false, ltb-true, lt-ltb, le-ltb, ne-eqb}
+use borrow.Author.Tests.{ltb-false, eqb-true, eqb-false, not-false, ltb-true, lt-ltb, le-ltb, eq-eqb, ne-eqb}
 use lib.Dec.{T, eqb, ltb, leb, ltb→lt, leb→le, lit<}
 use lib.ListN.{length, take, drop, length-take, drop-of-length-le}
 use lib.Seq.{drop-cons, getD-take}
@@ -21,7 +21,7 @@ use Rattle.steps.specs.Tranches.{tranchePlaces, trancheAt}
 use Rattle.grounds.specs.Grounds.{Ground, firstOf, firstGround, storePlaces, someShorter, assetsGround, probabilityGround, correlationGround}
 use Rattle.grounds.specs.Grounds.{recoveryGround, upperGround, attachmentsGround, storeGround, entriesGround, rowGround, screenGround, fullCorrelationGround}
 use Rattle.grounds.specs.Grounds.{countGround, poolGrounds, trancheGrounds, tranchesGrounds, countedGrounds, fillGrounds, rowGrounds, entriesGrounds, columnGrounds, lossGrounds}
-use Rattle.grounds.specs.Grounds.{layerGround, layerGrounds, LayerAccepted}
+use Rattle.grounds.specs.Grounds.{layerGround, layerGrounds, LayerAccepted, expectedGround, ceilingGround, deskGrounds, DeskAccepted}
 use Rattle.grounds.specs.Grounds.{screened, Screens, betaPoolGrounds, betaColumnGrounds, betaLossGrounds}
 use Rattle.grounds.specs.Grounds.{PoolAccepted, EachAtLeast, FillAccepted, RowAccepted, EntriesAccepted, TranchesAccepted, LossAccepted}
 use Rattle.grounds.specs.Grounds.{BetaPoolAccepted, BetaColumnAccepted, BetaLossAccepted}
@@ -147,6 +147,9 @@ pool-accepted most n p ρ is none =
 -- A pool that a report accepts is one that the library accepts.
 pub report-accepted : {n p ρ : ℕ} → PoolAccepted reportPool n p ρ → PoolAccepted largestPool n p ρ
 report-accepted pool = record { not-empty = pool .not-empty; range = report-range (pool .range) }
+
+pub report-fill-accepted : {n p ρ : ℕ} {lengths : List ℕ} → FillAccepted reportPool n p ρ lengths → FillAccepted largestPool n p ρ lengths
+report-fill-accepted fill = record { pool = report-accepted (fill .pool); store = fill .store }
 
 tranche-accepted : {r : ℕ} (R A B : ℕ) → r ≡ firstGround (trancheGrounds R A B) → r ≡ 0 → TrancheInRange R A B
 unfolding trancheGrounds recoveryGround upperGround attachmentsGround
@@ -317,26 +320,97 @@ pub pool-refusal-at-most : {r : ℕ} (most n p ρ : ℕ) → r ≡ firstGround (
 unfolding poolGrounds assetsGround probabilityGround correlationGround
 pool-refusal-at-most most n p ρ is = rw is (leb→le _ 3 (first-meets (λ x. leb x 3) (poolGrounds most n p ρ) tt tt))
 
-none-shorter : {m m′ : ℕ} (ls : List ℕ) → m ≤ m′ → EachAtLeast m′ ls → someShorter m ls ≡ false
-unfolding someShorter
-none-shorter [] few each = refl
-none-shorter {m} (l ∷ ls) few each = rw (le-ltb l m (le-trans few (each .0))) (none-shorter ls few (each .1))
+-- ---- when a call is answered
 
--- With slices that have room for so many assets, no column of at most so many is refused whose pool is accepted.
-pub column-answered : (most room n p ρ : ℕ) (lengths : List ℕ) (units : ℕ) → PoolAccepted most n p ρ → n ≤ room → EachAtLeast (triangle (suc room)) lengths
-    → room < units → firstGround (columnGrounds most n p ρ lengths units) ≡ 0
-unfolding firstOf firstGround columnGrounds entriesGrounds fillGrounds poolGrounds assetsGround probabilityGround correlationGround storeGround entriesGround
-column-answered most room n p ρ lengths units pool few store column =
+none-shorter : (m : ℕ) (ls : List ℕ) → EachAtLeast m ls → someShorter m ls ≡ false
+unfolding someShorter
+none-shorter m [] each = refl
+none-shorter m (l ∷ ls) each = rw (le-ltb l m (each .0)) (none-shorter m ls (each .1))
+
+fewer-places : {m m′ : ℕ} (ls : List ℕ) → m ≤ m′ → EachAtLeast m′ ls → EachAtLeast m ls
+fewer-places [] few each = tt
+fewer-places (l ∷ ls) few each = (le-trans few (each .0), fewer-places ls few (each .1))
+
+-- No ground of a fill applies to inputs that are as those of an accepted one.
+pub fill-answered : (most n p ρ : ℕ) (lengths : List ℕ) → FillAccepted most n p ρ lengths → firstGround (fillGrounds most n p ρ lengths) ≡ 0
+unfolding firstOf firstGround fillGrounds poolGrounds assetsGround probabilityGround correlationGround storeGround
+fill-answered most n p ρ lengths accepted =
+    let pool = accepted .pool in
     let some : n ≡ 0 → ⊥ = λ none. omega (arith, pool .not-empty) in
-    let places : storePlaces n ≤ triangle (suc room) = rw store-places (triangle-mono (omega arith)) in
     rw (
       ne-eqb n 0 some,
       le-ltb most n (pool .range .assets),
       le-ltb whole p (pool .range .probability),
       le-ltb whole ρ (pool .range .correlation),
-      none-shorter lengths places store,
+      store-places n,
+      none-shorter (triangle (suc n)) lengths (accepted .store),
+    ) refl
+
+-- With slices that have room for so many assets, no column of at most so many is refused whose pool is accepted.
+pub column-answered : (most room n p ρ : ℕ) (lengths : List ℕ) (units : ℕ) → PoolAccepted most n p ρ → n ≤ room → EachAtLeast (triangle (suc room)) lengths
+    → room < units → firstGround (columnGrounds most n p ρ lengths units) ≡ 0
+unfolding firstOf firstGround columnGrounds entriesGrounds entriesGround
+column-answered most room n p ρ lengths units pool few store column =
+    let few-places : triangle (suc n) ≤ triangle (suc room) = triangle-mono (omega arith) in
+    let places = fewer-places lengths few-places store in
+    rw (
+      ← first-append (fillGrounds most n p ρ lengths) (entriesGround 8 n units ∷ []),
+      fill-answered most n p ρ lengths (record { pool = pool; store = places }),
       le-ltb units (n + 1) (omega arith),
     ) refl
+
+-- ---- the desk
+
+-- A head that a fill would accept, with slices that it would: what is left of the list.
+module _ (most n p ρ p′ ρ′ k ceiling : ℕ) (lengths : List ℕ) (fill : firstGround (fillGrounds most n p ρ lengths) ≡ 0) where
+  desk-rest : firstGround (deskGrounds most n p ρ p′ ρ′ k ceiling lengths) ≡ firstGround (expectedGround p ρ p′ ρ′ ∷ rowGround n k ∷ ceilingGround ceiling k ∷ [])
+  unfolding firstOf deskGrounds
+  desk-rest = rw (← first-append (fillGrounds most n p ρ lengths) (expectedGround p ρ p′ ρ′ ∷ rowGround n k ∷ ceilingGround ceiling k ∷ []), fill) refl
+
+  -- 15 where the desk expects another pair, whatever row it asks for.
+  pub desk-other-pair : (p ≡ p′ → ρ ≡ ρ′ → ⊥) → firstGround (deskGrounds most n p ρ p′ ρ′ k ceiling lengths) ≡ 15
+  unfolding firstOf firstGround expectedGround
+  desk-other-pair other = desk-rest ∙ by-tests (eqb p p′) (eqb ρ ρ′) refl refl
+    where
+      by-tests : (s t : Bool) → s ≡ eqb p p′ → t ≡ eqb ρ ρ′ → firstOf (cond (not s || not t) 15 0) (firstGround (rowGround n k ∷ ceilingGround ceiling k ∷ [])) ≡ 15
+      by-tests true true p-is ρ-is = absurd (other (eqb-true p p′ (sym p-is)) (eqb-true ρ ρ′ (sym ρ-is)))
+      by-tests true false p-is ρ-is = refl
+      by-tests false t p-is ρ-is = refl
+
+  -- Where it expects the pair of the head.
+  module _ (same-p : p ≡ p′) (same-ρ : ρ ≡ ρ′) where
+    desk-row : firstGround (deskGrounds most n p ρ p′ ρ′ k ceiling lengths) ≡ firstGround (rowGround n k ∷ ceilingGround ceiling k ∷ [])
+    unfolding firstOf firstGround expectedGround
+    desk-row = desk-rest ∙ rw (eq-eqb p p′ same-p, eq-eqb ρ ρ′ same-ρ) refl
+
+    -- 9 above the rows of the store.
+    pub desk-above-assets : n < k → firstGround (deskGrounds most n p ρ p′ ρ′ k ceiling lengths) ≡ 9
+    unfolding firstOf firstGround rowGround
+    desk-above-assets l = desk-row ∙ rw (lt-ltb n k l) refl
+
+    -- 16 above the ceiling of the desk, where the store has the row.
+    pub desk-above-ceiling : k ≤ n → ceiling < k → firstGround (deskGrounds most n p ρ p′ ρ′ k ceiling lengths) ≡ 16
+    unfolding firstOf firstGround rowGround ceilingGround
+    desk-above-ceiling row l = desk-row ∙ rw (le-ltb n k row, lt-ltb ceiling k l) refl
+
+    pub desk-answered : k ≤ n → k ≤ ceiling → firstGround (deskGrounds most n p ρ p′ ρ′ k ceiling lengths) ≡ 0
+    unfolding firstOf firstGround rowGround ceilingGround
+    desk-answered row l = desk-row ∙ rw (le-ltb n k row, le-ltb ceiling k l) refl
+
+  -- Of a row that the store has.
+  pub desk-within : k ≤ n → firstGround (deskGrounds most n p ρ p′ ρ′ k ceiling lengths) ≡ firstGround (expectedGround p ρ p′ ρ′ ∷ ceilingGround ceiling k ∷ [])
+  unfolding firstOf firstGround rowGround
+  desk-within row = desk-rest ∙ rw (le-ltb n k row) refl
+
+pub desk-accepted : {r : ℕ} (most n p ρ p′ ρ′ k ceiling : ℕ) (lengths : List ℕ) → r ≡ firstGround (deskGrounds most n p ρ p′ ρ′ k ceiling lengths) → r ≡ 0
+    → DeskAccepted most n p ρ k lengths
+unfolding deskGrounds expectedGround rowGround ceilingGround
+desk-accepted most n p ρ p′ ρ′ k ceiling lengths is none =
+    let own = expectedGround p ρ p′ ρ′ ∷ rowGround n k ∷ ceilingGround ceiling k ∷ [] in
+    let parts = none-of-both (fillGrounds most n p ρ lengths) own is none in
+    record { fill = fill-accepted most n p ρ lengths refl (parts .0); row = ltb-false n k (none-applies own tt refl (parts .1) .1 .0) }
+
+-- ---- the refusal of a pool of the beta-binomial
 
 -- Below full correlation, and above it, the beta-binomial refuses a pool as the library does.
 pub beta-refused-as-pool : (most n p ρ : ℕ) → (ρ ≡ whole → ⊥) → firstGround (betaPoolGrounds most n p ρ) ≡ firstGround (poolGrounds most n p ρ)

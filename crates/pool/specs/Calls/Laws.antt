@@ -4,7 +4,6 @@
 use Prim.Native.Nat.{ℕ, suc, _<_}
 use mathlib.Core.Path.{_≡_, refl, ap, _∙_}
 use mathlib.Core.List.{List}
-use lib.Dec.{lit<}
 use lib.ListN.{take, replicate}
 use native.Mathlib.Nat.{le-refl}
 use Rattle.model.specs.Fraction.{Fraction}
@@ -37,8 +36,8 @@ use Rattle.chances.specs.Chances.Ready.{column-ready}
 use Rattle.expected_losses.specs.Loss.Ready.{tranches-ready}
 use Rattle.layer_losses.specs.Layer.{LayerReady}
 use Rattle.layer_losses.specs.Layer.Ready.{layer-ready}
-use Rattle.grounds.specs.Grounds.{firstGround, columnGrounds, TranchesAccepted}
-use Rattle.grounds.specs.Grounds.Laws.{entries-accepted, loss-accepted, loss-grounds-within}
+use Rattle.grounds.specs.Grounds.{firstGround, TranchesAccepted}
+use Rattle.grounds.specs.Grounds.Laws.{loss-accepted, loss-grounds-within}
 use Rattle.store.specs.declared.Pool.{Pool}
 use Rattle.store.specs.Stores.{Store}
 use Rattle.store.specs.Calls.Laws.{fills-untouched, fills-once, fills-apart}
@@ -106,64 +105,63 @@ module _ {n p ρ : ℕ} (range : InRange largestPool n p ρ) where
 
 -- ---- a refused call
 
-module _ {g : ℕ → ℕ} {pool : Pool} {before : Store} {refusal : ℕ} (some : refusal ≡ 0 → ⊥) where
+module _ {g : ℕ → ℕ} {pool head : Pool} {before : Store} {refusal : ℕ} (some : refusal ≡ 0 → ⊥) where
   pub prints-untouched : {refuses : Pool → Store → List ℕ → ℕ} {units : List ℕ} → refusal ≡ refuses pool before units
-      → Prints refuses g pool before before units units refusal
+      → Prints refuses g pool head before before units units refusal head
   prints-untouched is = record { fills = fills-untouched some is; prints = row-untouched some }
 
   pub replies-untouched : {refuses : Pool → List Tranche → ℕ → Store → ℕ} {tranches : List Tranche} {count : ℕ} {losses : List LossAnswer}
-      → refusal ≡ refuses pool tranches count before → losses ≡ replicate tranchePlaces untouched → Replies refuses g pool tranches count before before refusal losses
+      → refusal ≡ refuses pool tranches count before → losses ≡ replicate tranchePlaces untouched
+      → Replies refuses g pool head tranches count before before refusal head losses
   replies-untouched is are = record { fills = fills-untouched some is; replies = reply-refused some are }
 
-pub layer-replies-untouched : {pool : Pool} {i j : ℕ} {before : Store} {refusal : ℕ} {loss : LossAnswer} → (refusal ≡ 0 → ⊥) → refusal ≡ layerRefusal pool i j before
-    → loss ≡ untouched → LayerReplies pool i j before before refusal loss
+pub layer-replies-untouched : {pool head : Pool} {i j : ℕ} {before : Store} {refusal : ℕ} {loss : LossAnswer} → (refusal ≡ 0 → ⊥)
+    → refusal ≡ layerRefusal pool i j before → loss ≡ untouched → LayerReplies pool head i j before before refusal head loss
 layer-replies-untouched some is untouched-is = record { fills = fills-untouched some is; replies = layer-refused some untouched-is }
 
 -- ---- one outcome
 
 -- What meets the contract for the same inputs is the same, at whatever distances.
-module _ {f g : ℕ → ℕ} {pool : Pool} {before after after′ : Store} {refusal refusal′ : ℕ} where
-  pub prints-once : {refuses : Pool → Store → List ℕ → ℕ} {units left left′ : List ℕ} → Prints refuses f pool before after units left refusal
-      → Prints refuses g pool before after′ units left′ refusal′ → (refusal ≡ refusal′) × (after ≡ after′) × (left ≡ left′)
+module _ {f g : ℕ → ℕ} {pool head head₁ head₂ : Pool} {before after after′ : Store} {refusal refusal′ : ℕ} where
+  pub prints-once : {refuses : Pool → Store → List ℕ → ℕ} {units left left′ : List ℕ} → Prints refuses f pool head before after units left refusal head₁
+      → Prints refuses g pool head before after′ units left′ refusal′ head₂ → (refusal ≡ refusal′) × (after ≡ after′) × (left ≡ left′) × (head₁ ≡ head₂)
   prints-once one other =
       let same = fills-once refl (one .fills) (other .fills) in
-      (same .0, same .1, row-once (same .0) (one .prints) (other .prints))
+      (same .0, same .1, row-once (same .0) (one .prints) (other .prints), same .2)
 
   -- Whatever records stand past the count, where the list that refuses does not look at them.
   pub replies-once : {refuses : Pool → List Tranche → ℕ → Store → ℕ} {tranches tranches′ : List Tranche} {count : ℕ} {losses losses′ : List LossAnswer}
       → take count tranches ≡ take count tranches′ → refuses pool tranches count before ≡ refuses pool tranches′ count before
-      → Replies refuses f pool tranches count before after refusal losses → Replies refuses g pool tranches′ count before after′ refusal′ losses′
-      → (refusal ≡ refusal′) × (after ≡ after′) × (losses ≡ losses′)
+      → Replies refuses f pool head tranches count before after refusal head₁ losses → Replies refuses g pool head tranches′ count before after′ refusal′ head₂ losses′
+      → (refusal ≡ refusal′) × (after ≡ after′) × (losses ≡ losses′) × (head₁ ≡ head₂)
   replies-once alike alone one other =
       let same = fills-once alone (one .fills) (other .fills) in
-      (same .0, same .1, reply-once alike (same .0) (one .replies) (other .replies))
+      (same .0, same .1, reply-once alike (same .0) (one .replies) (other .replies), same .2)
 
 -- The records past the count play no part.
-pub replies-alone : {f g : ℕ → ℕ} {pool : Pool} {before after after′ : Store} {tranches tranches′ : List Tranche} {count refusal refusal′ : ℕ}
-    {losses losses′ : List LossAnswer} → take count tranches ≡ take count tranches′ → Replies lossRefusal f pool tranches count before after refusal losses
-    → Replies lossRefusal g pool tranches′ count before after′ refusal′ losses′ → (refusal ≡ refusal′) × (after ≡ after′) × (losses ≡ losses′)
+pub replies-alone : {f g : ℕ → ℕ} {pool head head₁ head₂ : Pool} {before after after′ : Store} {tranches tranches′ : List Tranche} {count refusal refusal′ : ℕ}
+    {losses losses′ : List LossAnswer} → take count tranches ≡ take count tranches′
+    → Replies lossRefusal f pool head tranches count before after refusal head₁ losses → Replies lossRefusal g pool head tranches′ count before after′ refusal′ head₂ losses′
+    → (refusal ≡ refusal′) × (after ≡ after′) × (losses ≡ losses′) × (head₁ ≡ head₂)
 unfolding lossRefusal
 replies-alone alike = replies-once alike (ap firstGround (loss-grounds-within _ _ _ _ _ _ _ _ alike))
 
 -- ---- what the library's calls leave, by another list that gives the same number, at another distance
 
-module _ {f g : ℕ → ℕ} {pool : Pool} {before after : Store} {refusal : ℕ} (budgets : BudgetsFor g (pool .assets)) where
+module _ {f g : ℕ → ℕ} {pool head head′ : Pool} {before after : Store} {refusal : ℕ} (budgets : BudgetsFor g (pool .assets)) where
   pub prints-apart : {refuses : Pool → Store → List ℕ → ℕ} {units units′ : List ℕ} → columnRefusal pool before units ≡ refuses pool before units
-      → Prints columnRefusal f pool before after units units′ refusal → Prints refuses g pool before after units units′ refusal
-  unfolding columnRefusal columnGrounds
-  prints-apart same prints =
-      let accepted = entries-accepted 8 largestPool _ _ _ _ _ (lit< tt) (prints .fills .refusal-is) in
-      record { fills = fills-apart (λ none. (accepted none .fill .pool .range, budgets)) same (prints .fills); prints = prints .prints }
+      → Prints columnRefusal f pool head before after units units′ refusal head′ → Prints refuses g pool head before after units units′ refusal head′
+  prints-apart same prints = record { fills = fills-apart budgets same (prints .fills); prints = prints .prints }
 
   pub replies-apart : {refuses : Pool → List Tranche → ℕ → Store → ℕ} {tranches : List Tranche} {count : ℕ} {losses : List LossAnswer}
       → lossRefusal pool tranches count before ≡ refuses pool tranches count before
-      → Replies lossRefusal f pool tranches count before after refusal losses → Replies refuses g pool tranches count before after refusal losses
+      → Replies lossRefusal f pool head tranches count before after refusal head′ losses → Replies refuses g pool head tranches count before after refusal head′ losses
   unfolding defaults lossRefusal
   replies-apart same replies =
       let accepted = loss-accepted largestPool _ _ _ _ _ _ (replies .fills .refusal-is) in
       let are = replies .replies .losses-are in
       record {
-        fills = fills-apart (λ none. (accepted none .fill .pool .range, budgets)) same (replies .fills);
+        fills = fills-apart budgets same (replies .fills);
         replies = record {
           losses-are = are;
           holds-losses = λ none.

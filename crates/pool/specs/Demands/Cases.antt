@@ -1,10 +1,11 @@
--- What the page says of touching tranches, in figures.
+-- What the page says of touching tranches, in figures; that each call which fills a store has what is demanded of all of them, and which head it hands back.
 -- Assumes nothing.
 use Prim.Native.Nat.{ℕ, suc, _-_, _*_, _<_}
 use mathlib.Core.Path.{_≡_, refl}
 use mathlib.Core.List.{List}
 use native.Mathlib.Nat.{le-step, lt-suc-self}
 use native.Mathlib.Omega.{arith}
+use lib.IntN.{ℤ}
 use Rattle.model.specs.Fraction.{Fraction, Same, AtMost, integer, plus, times, fractionSum, whole}
 use Rattle.model.specs.Fraction.Laws.{same-refl, same-sym, same-trans, plus-same}
 use Rattle.model.specs.Chances.{Chances, expectedLoss}
@@ -15,9 +16,13 @@ use Rattle.kept.specs.Rounding.{value}
 use Rattle.kept.specs.Rounding.Leading.{side-same}
 use Rattle.steps.specs.Chances.{keptLoss}
 use Rattle.steps.specs.declared.Tranche.{Tranche}
+use Rattle.steps.specs.declared.Verdict.{Verdict}
 use Rattle.steps.specs.Tranches.Cases.{three, touch}
+use Rattle.store.specs.declared.Pool.{Pool}
 use Rattle.expected_losses.specs.declared.Answer.{Answer}
-use Rattle.pool.specs.Demands.{givenAt, lossAt, Touch, Carries, CarriesTwo, lossOfPool, LossesDemands}
+use Rattle.layer_losses.specs.declared.LayerAnswer.{LayerAnswer}
+use Rattle.pool.specs.Demands.{givenAt, lossAt, Touch, Carries, CarriesTwo, lossOfPool, LossesDemands, refusalOf, partsFor, Slices, StoreDemands, FillDemands}
+use Rattle.pool.specs.Demands.{ColumnDemands, ShiftDemands, TranchesDemands, LayerDemands, CheckDemands, ScreenColumnDemands, ScreenTranchesDemands}
 
 -- The conditions, and no others.
 pub touches : (tranches : List Tranche) (count : ℕ) → 0 < count → givenAt tranches 0 .lower ≡ 0
@@ -74,3 +79,32 @@ three-lose answer demands none =
       low-carried = λ low high carries. side-same Low (from-nothing _ _ _) six-hundred (shared .low-carried low high carries);
       high-carried = λ low high carries. side-same High (from-nothing _ _ _) six-hundred (shared .high-carried low high carries);
     }
+
+-- ---- what every call that fills a store hands back and leaves
+
+-- Each of the eight, whatever it is given beside the pool, the head and the store: bounds at the library's distance, and on the screen at its own.
+pub each-fills : (pool head head′ : Pool) (before after : Slices) (refusal count i j : ℕ) (units units′ claims : List ℕ) (shifts shifts′ : List ℤ) (tranches : List Tranche)
+    (answer : Answer) (layer : LayerAnswer) (verdict : Verdict)
+    → (FillDemands pool head before after refusal head′ → StoreDemands pool partsFor head before after refusal head′)
+    × (ColumnDemands pool head before after units units′ refusal head′ → StoreDemands pool partsFor head before after refusal head′)
+    × (ShiftDemands pool head before after shifts shifts′ refusal head′ → StoreDemands pool partsFor head before after refusal head′)
+    × (TranchesDemands pool head tranches count before after answer head′ → StoreDemands pool partsFor head before after (answer .refusal) head′)
+    × (LayerDemands pool head i j before after layer head′ → StoreDemands pool partsFor head before after (layer .refusal) head′)
+    × (CheckDemands pool head claims before after verdict head′ → StoreDemands pool partsFor head before after (refusalOf verdict) head′)
+    × (ScreenColumnDemands pool head before after units units′ refusal head′ → StoreDemands pool (λ _. 1000000) head before after refusal head′)
+    × (ScreenTranchesDemands pool head tranches count before after answer head′ → StoreDemands pool (λ _. 1000000) head before after (answer .refusal) head′)
+each-fills pool head head′ before after refusal count i j units units′ claims shifts shifts′ tranches answer layer verdict = (
+  λ demands. demands .store,
+  λ demands. demands .leaves .store,
+  λ demands. demands .leaves .store,
+  λ demands. demands .store,
+  λ demands. demands .store,
+  λ demands. demands .store,
+  λ demands. demands .own .leaves .store,
+  λ demands. demands .own .store,
+)
+
+-- The head that it hands back: the pool if it is accepted, and the one that came if it is refused.
+pub heads : {pool head head′ : Pool} {parts : ℕ → ℕ} {before after : Slices} {refusal : ℕ} → StoreDemands pool parts head before after refusal head′
+    → (refusal ≡ 0 → head′ ≡ pool) × ((refusal ≡ 0 → ⊥) → head′ ≡ head)
+heads store = (store .head-is, store .head-kept)

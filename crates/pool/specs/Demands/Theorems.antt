@@ -48,8 +48,8 @@ use Rattle.working.specs.Slices.{overwritten, entriesAfter, numberAt}
 use Rattle.working.specs.Slices.Laws.{overwritten-length, overwritten-later, entries-kept, entries-length, entries-later}
 use Rattle.rows.specs.Store.{filledSide, stored}
 use Rattle.rows.specs.Store.Laws.{stored-length}
-use Rattle.grounds.specs.Grounds.{Ground, firstGround, columnGrounds, EachAtLeast, EntriesAccepted}
-use Rattle.grounds.specs.Grounds.Laws.{fill-accepted, row-accepted, entries-accepted, loss-accepted, layer-accepted}
+use Rattle.grounds.specs.Grounds.{Ground, firstGround, columnGrounds, EachAtLeast}
+use Rattle.grounds.specs.Grounds.Laws.{row-accepted, entries-accepted, layer-accepted}
 use Rattle.store.specs.declared.Pool.{Pool}
 use Rattle.expected_losses.specs.declared.Loss.{Loss}
 use Rattle.expected_losses.specs.declared.Loss.the-variants.{Untouched, Faint, Shown}
@@ -57,8 +57,8 @@ use Rattle.expected_losses.specs.declared.TrancheLoss.{TrancheLoss}
 use Rattle.expected_losses.specs.declared.Answer.{Answer}
 use Rattle.layer_losses.specs.declared.LayerAnswer.{LayerAnswer}
 use Rattle.store.specs.Stores.{Store, store, lengths, sideOf, place, storeAfter}
-use Rattle.store.specs.Stores.Laws.{store-untouched}
 use Rattle.store.specs.Calls.{Fills, fillRefusal, HandsRow, rowRefusal}
+use Rattle.store.specs.Calls.Laws.{fills-kept, fills-head, fills-accepted}
 use Rattle.pool.specs.Calls.{columnRefusal, Prints, lossRefusal, RepliesLosses, Replies, layerRefusal, LayerReplies}
 use Rattle.pool.specs.Demands.{keptZero, partsFor, BoundDemands, StepsDemands, oneHalf, PrintedDemands, oneAndAHalf, unitsOff, Demand3Column, Slices, significandsOn, lent, numberOn, lengthsOf, from, TableDemands, StoreDemands, edge, BitsDemands, LossDemands, AnswerDemands, TrancheDemands, givenAt, lossAt, Touch, Carries, CarriesTwo, lossOfPool, addedUp, SharedDemands, LossesDemands}
 use Rattle.pool.specs.Demands.{FillDemands, RowDemands, EntriesDemands, ColumnDemandsBy, ColumnDemands, TranchesDemandsBy, TranchesDemands, LayerLossDemands, LayerDemands}
@@ -108,10 +108,10 @@ length-filled : {A : Type 0} (side : Side) (n p ρ : ℕ) (field : Kept → A) (
     → length (overwritten (stored side p ρ field n) old) ≡ length old
 length-filled side n p ρ field old room = overwritten-length (stored side p ρ field n) old (omega (arith, stored-length side p ρ field n))
 
-module _ {number : ℕ} {parts : ℕ → ℕ} {pool : Pool} {before after : Store} {refusal : ℕ} (fills : Fills number parts pool before after refusal) where
-  -- A refused call leaves the store as it was.
-  pub store-kept : (refusal ≡ 0 → ⊥) → after ≡ before
-  store-kept some = fills .store-is ∙ sym (store-untouched _ _ _ refusal before some)
+module _ {number : ℕ} {parts : ℕ → ℕ} {pool head head′ : Pool} {before after : Store} {refusal : ℕ} (fills : Fills number parts pool head before after refusal head′) where
+  -- A refused call leaves the slices as they were.
+  pub store-kept : (refusal ≡ 0 → ⊥) → slices after ≡ slices before
+  store-kept some = ap slices (fills-kept fills some .0)
 
   module _ (none : refusal ≡ 0) where
     made-on : (side : Side) (j k : ℕ) → j ≤ k → k ≤ pool .assets
@@ -149,28 +149,32 @@ module _ {number : ℕ} {parts : ℕ → ℕ} {pool : Pool} {before after : Stor
         let is : filled-is = rw none at (fills .store-is) in
         rw is (simp later-filled refl)
 
-  -- An accepted call has room for the store.
-  pub store-meets : (refusal ≡ 0 → EachAtLeast (triangle (suc (pool .assets))) (lengths before)) → StoreDemands pool parts (slices before) (slices after) refusal
-  store-meets room = record { lengths = λ none. lengths-meet none (room none); table = table-meets; later = later-meets }
+  pub store-meets : StoreDemands pool parts head (slices before) (slices after) refusal head′
+  unfolding fillRefusal lengths largestPool
+  store-meets = record {
+    head-is = fills-head fills;
+    head-kept = λ some. fills-kept fills some .1;
+    accepted = fills .accepted;
+    lengths = λ none. lengths-meet none (fills-accepted fills none .store);
+    table = table-meets;
+    later = later-meets;
+  }
 
   -- With a slice beside the store, whatever grounds the call checks and whatever entries it writes.
-  pub entries-meet : {A : Type 0} {grounds : List Ground} {most : ℕ} (f : ℕ → A) (old : List A) {new : List A} → number ≡ firstGround grounds
-      → (refusal ≡ 0 → EntriesAccepted most (pool .assets) (pool .probability) (pool .correlation) (lengths before) (length old))
-      → new ≡ entriesAfter (pool .assets) f refusal old → EntriesDemands pool parts grounds (slices before) (slices after) old new refusal
-  entries-meet f old is accepted entries = record {
+  pub entries-meet : {A : Type 0} {grounds : List Ground} (f : ℕ → A) (old : List A) {new : List A} → number ≡ firstGround grounds
+      → (refusal ≡ 0 → pool .assets < length old)
+      → new ≡ entriesAfter (pool .assets) f refusal old → EntriesDemands pool parts grounds head (slices before) (slices after) old new refusal head′
+  entries-meet f old is room entries = record {
     one = record { number = fills .refusal-is ∙ is; untouched = λ some. rw (store-kept some, entries-kept (pool .assets) f old entries some) refl };
-    store = store-meets (λ none. accepted none .fill .store);
-    entries-length = λ none. entries-length (pool .assets) f old entries none (accepted none .entries);
+    store = store-meets;
+    entries-length = λ none. entries-length (pool .assets) f old entries none (room none);
     later-entries = entries-later (pool .assets) f old entries;
   }
 
-pub fill-meets : {pool : Pool} {before after : Store} {refusal : ℕ} → Fills (fillRefusal pool before) distanceFor pool before after refusal
-    → FillDemands pool (slices before) (slices after) refusal
+pub fill-meets : {pool head head′ : Pool} {before after : Store} {refusal : ℕ} → Fills (fillRefusal pool before) distanceFor pool head before after refusal head′
+    → FillDemands pool head (slices before) (slices after) refusal head′
 unfolding fillRefusal lengths largestPool upTo finePool distanceFor partsFor
-fill-meets fills = record {
-  one = record { number = fills .refusal-is; untouched = λ some. ap slices (store-kept fills some) };
-  store = store-meets fills (λ none. fill-accepted _ _ _ _ _ (fills .refusal-is) none .store);
-}
+fill-meets fills = record { one = record { number = fills .refusal-is; untouched = store-kept fills }; store = store-meets fills }
 
 -- ---- the row
 
@@ -221,20 +225,21 @@ rows-meet {r} low holds = record {
   not-below = λ k l. within-weaken (off-within (r .assets)) (holds .near k l) .not-below;
 }
 
-module _ {pool : Pool} {before after : Store} {units units′ : List ℕ} {refusal : ℕ} where
+module _ {pool head head′ : Pool} {before after : Store} {units units′ : List ℕ} {refusal : ℕ} where
   -- Whatever list refuses, at any distances.
-  pub column-meets-by : {refuses : Pool → Store → List ℕ → ℕ} {parts : ℕ → ℕ} {grounds : List Ground} → Prints refuses parts pool before after units units′ refusal
+  pub column-meets-by : {refuses : Pool → Store → List ℕ → ℕ} {parts : ℕ → ℕ} {grounds : List Ground} → Prints refuses parts pool head before after units units′ refusal head′
       → refuses pool before units ≡ firstGround grounds → (refusal ≡ 0 → columnRefusal pool before units ≡ 0)
-      → ColumnDemandsBy pool parts grounds (slices before) (slices after) units units′ refusal
+      → ColumnDemandsBy pool parts grounds head (slices before) (slices after) units units′ refusal head′
   unfolding defaults columnRefusal columnGrounds
   column-meets-by prints is by-library = record {
     leaves =
-        entries-meet (prints .fills) _ _ is (λ none. entries-accepted 8 largestPool _ _ _ _ _ (lit< tt) refl (by-library none))
+        entries-meet (prints .fills) _ _ is (λ none. entries-accepted 8 largestPool _ _ _ _ _ (lit< tt) refl (by-library none) .entries)
         (prints .prints .units-are);
     column = λ none. rows-meet _ (prints .prints .holds-column none);
   }
 
-  pub column-meets : Prints columnRefusal distanceFor pool before after units units′ refusal → ColumnDemands pool (slices before) (slices after) units units′ refusal
+  pub column-meets : Prints columnRefusal distanceFor pool head before after units units′ refusal head′
+      → ColumnDemands pool head (slices before) (slices after) units units′ refusal head′
   unfolding columnRefusal lengths largestPool upTo finePool distanceFor partsFor
   column-meets prints = column-meets-by prints refl (λ none. sym (prints .fills .refusal-is) ∙ none)
 
@@ -414,23 +419,21 @@ losses-meet {parts} {p} {r} {c} {tranches} {count} answer eight replies = record
       untouched-there _ (sym (at-place (answer .losses) i) ∙ rw (replies .losses-are ∙ sym (losses-untouched _ _ _ _ some)) (getD-replicate tranchePlaces i untouched untouched l));
 }
 
-module _ {pool : Pool} {tranches : List Tranche} {count : ℕ} {before after : Store} (answer : Answer) where
+module _ {pool head head′ : Pool} {tranches : List Tranche} {count : ℕ} {before after : Store} (answer : Answer) where
   -- Whatever list refuses, at any distances.
   pub tranches-meet-by : {refuses : Pool → List Tranche → ℕ → Store → ℕ} {parts : ℕ → ℕ} {grounds : List Ground} → length tranches ≡ 8
-      → Replies refuses parts pool tranches count before after (answer .refusal) (lossesIn (answer .losses))
-      → refuses pool tranches count before ≡ firstGround grounds → (answer .refusal ≡ 0 → lossRefusal pool tranches count before ≡ 0)
-      → TranchesDemandsBy pool tranches count parts grounds (slices before) (slices after) answer
-  unfolding lossRefusal
-  tranches-meet-by eight replies first by-library = record {
-    one = record { number = replies .fills .refusal-is ∙ first; untouched = λ some. ap slices (store-kept (replies .fills) some) };
-    store = store-meets (replies .fills) (λ none. loss-accepted largestPool _ _ _ _ _ _ refl (by-library none) .fill .store);
+      → Replies refuses parts pool head tranches count before after (answer .refusal) head′ (lossesIn (answer .losses))
+      → refuses pool tranches count before ≡ firstGround grounds → TranchesDemandsBy pool head tranches count parts grounds (slices before) (slices after) answer head′
+  tranches-meet-by eight replies first = record {
+    one = record { number = replies .fills .refusal-is ∙ first; untouched = store-kept (replies .fills) };
+    store = store-meets (replies .fills);
     losses = losses-meet answer eight (replies .replies);
   }
 
-  pub tranches-meet : length tranches ≡ 8 → Replies lossRefusal distanceFor pool tranches count before after (answer .refusal) (lossesIn (answer .losses))
-      → TranchesDemands pool tranches count (slices before) (slices after) answer
+  pub tranches-meet : length tranches ≡ 8 → Replies lossRefusal distanceFor pool head tranches count before after (answer .refusal) head′ (lossesIn (answer .losses))
+      → TranchesDemands pool head tranches count (slices before) (slices after) answer head′
   unfolding lossRefusal lengths largestPool upTo finePool distanceFor partsFor
-  tranches-meet eight replies = tranches-meet-by eight replies refl (λ none. sym (replies .fills .refusal-is) ∙ none)
+  tranches-meet eight replies = tranches-meet-by eight replies refl
 
 -- ---- the layer
 
@@ -445,14 +448,14 @@ layer-loss-meets {r} {i} {j} loss layer holds = record {
       record { wide = wide; same = layer-tranche r i j A B (layer .from) (layer .order) lower upper wide };
 }
 
-pub layer-meets : {pool : Pool} {i j : ℕ} {before after : Store} (answer : LayerAnswer) → LayerReplies pool i j before after (answer .refusal) (lossOf (answer .loss))
-    → LayerDemands pool i j (slices before) (slices after) answer
+pub layer-meets : {pool head head′ : Pool} {i j : ℕ} {before after : Store} (answer : LayerAnswer)
+    → LayerReplies pool head i j before after (answer .refusal) head′ (lossOf (answer .loss)) → LayerDemands pool head i j (slices before) (slices after) answer head′
 unfolding defaults layerRefusal lengths largestPool upTo finePool distanceFor partsFor over whole
 layer-meets {pool} {i} {j} answer replies =
     let accepted = layer-accepted largestPool _ _ _ _ _ _ (replies .fills .refusal-is) in
     record {
-      one = record { number = replies .fills .refusal-is; untouched = λ some. ap slices (store-kept (replies .fills) some) };
-      store = store-meets (replies .fills) (λ none. accepted none .fill .store);
+      one = record { number = replies .fills .refusal-is; untouched = store-kept (replies .fills) };
+      store = store-meets (replies .fills);
       layer = λ none. layer-loss-meets (answer .loss) (accepted none .layer) (replies .replies .holds-loss none);
       of-all = λ none.
           let given = accepted none .fill .pool in

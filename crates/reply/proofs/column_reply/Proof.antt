@@ -36,7 +36,7 @@ accepted c = pool-accepted _ _ _ _ (refusal-is (c .before)) (c .if1 .left)
 abbrev else1 : tie.After-column → tie.Else1
 else1 c = c .before .before .before .before .before .before
 
-prints : (c : tie.After-column) → c .column .result ≡ 0
+prints : (c : tie.After-column) → c .column .result .refusal ≡ 0
 unfolding triangle reportPool store lengths
 prints c = answered (c .column .ensures) (accepted (else1 c)) (lit≤ tt, (lit≤ tt, (lit≤ tt, (lit≤ tt, tt)))) (lit< tt)
 

@@ -39,7 +39,8 @@ carried {Answers} {text} {before} {reply} written answers =
     }
 
 -- With slices that have room for the largest pool of a report, a column call answers for every pool that a report accepts.
-pub answered : {pool : Pool} {before after : Store} {units units′ : List ℕ} {refusal : ℕ} → Prints columnRefusal distanceFor pool before after units units′ refusal
+pub answered : {pool head head′ : Pool} {before after : Store} {units units′ : List ℕ} {refusal : ℕ}
+    → Prints columnRefusal distanceFor pool head before after units units′ refusal head′
     → PoolAccepted reportPool (pool .assets) (pool .probability) (pool .correlation) → EachAtLeast (triangle (suc reportPool)) (lengths before)
     → reportPool < length units → refusal ≡ 0
 unfolding columnRefusal

@@ -23,8 +23,8 @@ firstTwo pool = firstGround (assetsGround largestPool (pool .assets) ∷ screenG
 
 -- ---- column
 
-module _ {pool : Pool} {before : Store} {units : List ℕ} {r : ℕ} (is : r ≡ firstTwo pool) where
-  pub column-refused : (r ≡ 0 → ⊥) → ScreenPrints pool before before units units r
+module _ {pool head : Pool} {before : Store} {units : List ℕ} {r : ℕ} (is : r ≡ firstTwo pool) where
+  pub column-refused : (r ≡ 0 → ⊥) → ScreenPrints pool head before before units units r head
   unfolding columnRefusal screenColumnRefusal screenColumnGrounds
   column-refused some =
       let starts = column-starts largestPool _ _ _ _ _ in
@@ -32,8 +32,8 @@ module _ {pool : Pool} {before : Store} {units : List ℕ} {r : ℕ} (is : r ≡
       let screened = screens-at own (screens screenPool starts) in
       record { own = prints-untouched some own; screens = screened; library = λ not. prints-untouched some (screened .otherwise not) }
 
-  pub column-handed-over : {after : Store} {units′ : List ℕ} {refusal : ℕ} → r ≡ 0 → Prints columnRefusal distanceFor pool before after units units′ refusal
-      → ScreenPrints pool before after units units′ refusal
+  pub column-handed-over : {after : Store} {units′ : List ℕ} {refusal : ℕ} {head′ : Pool} → r ≡ 0
+      → Prints columnRefusal distanceFor pool head before after units units′ refusal head′ → ScreenPrints pool head before after units units′ refusal head′
   unfolding columnRefusal screenColumnRefusal screenColumnGrounds
   column-handed-over none library =
       let within = screen-within largestPool screenPool (pool .assets) is none in
@@ -43,8 +43,9 @@ module _ {pool : Pool} {before : Store} {units : List ℕ} {r : ℕ} (is : r ≡
 
 -- ---- losses
 
-module _ {pool : Pool} {tranches : List Tranche} {count : ℕ} {before : Store} {r : ℕ} (is : r ≡ firstTwo pool) where
-  pub losses-refused : {losses : List LossAnswer} → (r ≡ 0 → ⊥) → losses ≡ replicate tranchePlaces untouched → ScreenReplies pool tranches count before before r losses
+module _ {pool head : Pool} {tranches : List Tranche} {count : ℕ} {before : Store} {r : ℕ} (is : r ≡ firstTwo pool) where
+  pub losses-refused : {losses : List LossAnswer} → (r ≡ 0 → ⊥) → losses ≡ replicate tranchePlaces untouched
+      → ScreenReplies pool head tranches count before before r head losses
   unfolding lossRefusal screenLossRefusal screenLossGrounds
   losses-refused some are =
       let starts = loss-starts largestPool _ _ _ _ _ _ in
@@ -52,8 +53,8 @@ module _ {pool : Pool} {tranches : List Tranche} {count : ℕ} {before : Store} 
       let screened = screens-at own (screens screenPool starts) in
       record { own = replies-untouched some own are; screens = screened; library = λ not. replies-untouched some (screened .otherwise not) are }
 
-  pub losses-handed-over : {after : Store} {refusal : ℕ} {losses : List LossAnswer} → r ≡ 0
-      → Replies lossRefusal distanceFor pool tranches count before after refusal losses → ScreenReplies pool tranches count before after refusal losses
+  pub losses-handed-over : {after : Store} {refusal : ℕ} {head′ : Pool} {losses : List LossAnswer} → r ≡ 0
+      → Replies lossRefusal distanceFor pool head tranches count before after refusal head′ losses → ScreenReplies pool head tranches count before after refusal head′ losses
   unfolding lossRefusal screenLossRefusal screenLossGrounds
   losses-handed-over none library =
       let within = screen-within largestPool screenPool (pool .assets) is none in
@@ -62,9 +63,9 @@ module _ {pool : Pool} {tranches : List Tranche} {count : ℕ} {before : Store} 
       record { own = own; screens = screens-at (own .fills .refusal-is) lists; library = λ _. library }
 
 -- The records past the count play no part.
-pub screen-replies-alone : {pool : Pool} {before after after′ : Store} {tranches tranches′ : List Tranche} {count refusal refusal′ : ℕ} {losses losses′ : List LossAnswer}
-    → take count tranches ≡ take count tranches′ → ScreenReplies pool tranches count before after refusal losses
-    → ScreenReplies pool tranches′ count before after′ refusal′ losses′ → (refusal ≡ refusal′) × (after ≡ after′) × (losses ≡ losses′)
+pub screen-replies-alone : {pool head head₁ head₂ : Pool} {before after after′ : Store} {tranches tranches′ : List Tranche} {count refusal refusal′ : ℕ} {losses losses′ : List LossAnswer}
+    → take count tranches ≡ take count tranches′ → ScreenReplies pool head tranches count before after refusal head₁ losses
+    → ScreenReplies pool head tranches′ count before after′ refusal′ head₂ losses′ → (refusal ≡ refusal′) × (after ≡ after′) × (losses ≡ losses′) × (head₁ ≡ head₂)
 unfolding screenLossRefusal screenLossGrounds
 screen-replies-alone {pool} alike one other =
     replies-once alike (ap (λ gs. firstGround (screened screenPool (pool .assets) gs)) (loss-grounds-within _ _ _ _ _ _ _ _ alike)) (one .own) (other .own)

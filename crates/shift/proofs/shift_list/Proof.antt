@@ -1,6 +1,6 @@
 -- `shift_list` meets its contract.
 -- Assumes nothing.
-use mathlib.Core.Path.{_≡_, sym, _∙_}
+use mathlib.Core.Path.{_≡_, refl, sym, _∙_}
 use borrow.Author.Needs.{needs}
 use native.Mathlib.Omega.{arith}
 use lib.Dec.{lit<}
@@ -8,7 +8,7 @@ use lib.ListN.{length}
 use Rattle.steps.specs.Inputs.{reportPool}
 use Rattle.steps.specs.Inputs.Laws.{range-uncorrelated, report-range, working-range}
 use Rattle.grounds.specs.Grounds.{shiftGrounds, fourLengths, EntriesAccepted}
-use Rattle.grounds.specs.Grounds.Laws.{entries-accepted, report-accepted}
+use Rattle.grounds.specs.Grounds.Laws.{entries-accepted, report-fill-accepted}
 use Rattle.steps.specs.CorrelatedBinomial.{keptDefaults}
 use Rattle.steps.specs.CorrelatedBinomial.Theorems.{pool-budgets, steps-hold}
 use Rattle.working.specs.Slices.Laws.{entries-untouched}
@@ -40,9 +40,7 @@ refused c = record {
 }
 
 fill-both-requires : tie.Need-fill-both-requires
-fill-both-requires c κs =
-    let given = accepted (c .before .before .before .before) .fill in
-    record { pool = report-accepted (given .pool); store = given .store }
+fill-both-requires c κs = report-fill-accepted (accepted (c .before .before .before .before) .fill)
 
 -- The place where the call goes on, seen from where the store is filled.
 abbrev else1 : tie.After-fill-both → tie.Else1
@@ -67,7 +65,7 @@ listed c =
     let pool = accepted (else1 filled) .fill .pool in
     let list = c .before .print-shifts .ensures .shifts-are _ _ (filled .fill-both .ensures .low-row) (c .before .before .before .last-row .ensures) in
     record {
-      fills = fills-filled (report-range (pool .range)) (sym (goes-on (else1 filled)) ∙ else1 filled .before .shift-refusal .ensures) (filled .fill-both .ensures .store-is);
+      fills = fills-filled (report-fill-accepted (accepted (else1 filled) .fill)) (sym (goes-on (else1 filled)) ∙ else1 filled .before .shift-refusal .ensures) (filled .fill-both .ensures .store-is) refl;
       uncorrelated-hold = λ _. let range = range-uncorrelated (report-range (pool .range)) in steps-hold range (pool-budgets (range .assets));
       shifts-are = list;
       holds-shifts = λ _. listed-holds (pool .range) (pool .not-empty) _ list;

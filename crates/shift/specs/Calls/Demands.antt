@@ -41,11 +41,11 @@ list-meets {r} low base most holds = record {
   total = less-at-most-trans (holds .total) (times-mono at-most-refl most);
 }
 
-pub shift-meets : {pool : Pool} {before after : Store} {shifts shifts′ : List ℤ} {refusal : ℕ} → ListsShifts pool before after shifts shifts′ refusal
-    → ShiftDemands pool (slices before) (slices after) shifts shifts′ refusal
+pub shift-meets : {pool head head′ : Pool} {before after : Store} {shifts shifts′ : List ℤ} {refusal : ℕ} → ListsShifts pool head before after shifts shifts′ refusal head′
+    → ShiftDemands pool head (slices before) (slices after) shifts shifts′ refusal head′
 unfolding shiftRefusal shiftGrounds lengths reportPool upTo finePool distanceFor partsFor tenths shiftTenths oneAndThreeTenths defaults
 shift-meets lists = record {
-  leaves = entries-meet (lists .fills) _ _ refl (λ none. entries-accepted 10 _ _ _ _ _ _ (lit< tt) (lists .fills .refusal-is) none) (lists .shifts-are);
+  leaves = entries-meet (lists .fills) _ _ refl (λ none. entries-accepted 10 _ _ _ _ _ _ (lit< tt) (lists .fills .refusal-is) none .entries) (lists .shifts-are);
   uncorrelated = λ none. steps-meet (lists .uncorrelated-hold none);
   list = λ none. list-meets _ _ (record { cross = lit≤ tt }) (lists .holds-shifts none);
 }

@@ -15,16 +15,17 @@ use Rattle.kept.specs.Rounding.{nought}
 use Rattle.steps.specs.CorrelatedBinomial.Budgets.{BudgetsFor}
 use Rattle.steps.specs.CorrelatedBinomial.Rows.{keptRow}
 use Rattle.steps.specs.CorrelatedBinomial.Theorems.{pool-budgets, steps-hold}
-use Rattle.steps.specs.Inputs.{largestPool, distanceFor, InRange}
+use Rattle.steps.specs.Inputs.{largestPool, distanceFor}
 use Rattle.working.specs.Slices.{tabulate, overwritten}
 use Rattle.working.specs.Slices.Laws.{length-tabulate, getD-tabulate}
 use Rattle.rows.specs.Store.{stored}
 use Rattle.rows.specs.Store.Laws.{filled-entry}
-use Rattle.grounds.specs.Grounds.Laws.{row-accepted}
+use Rattle.grounds.specs.Grounds.{FillAccepted}
+use Rattle.grounds.specs.Grounds.Laws.{fill-accepted, fill-answered, row-accepted}
 use Rattle.store.specs.declared.Pool.{Pool}
-use Rattle.store.specs.Stores.{Store, place, storeAfter}
+use Rattle.store.specs.Stores.{Store, lengths, place, storeAfter}
 use Rattle.store.specs.Stores.Laws.{place-triangle, store-untouched, filled-holds}
-use Rattle.store.specs.Calls.{Fills, rowRefusal, partAfter, HandsRow}
+use Rattle.store.specs.Calls.{fillRefusal, headAfter, Fills, rowRefusal, partAfter, HandsRow}
 
 -- ---- row
 
@@ -85,33 +86,65 @@ module _ (n k : ℕ) (significands : List ℕ) {part : List ℕ} (is : part ≡ 
   pub hands-row : HandsRow n k significands part
   hands-row = record { part-is = is; refused-empty = part-empty; accepted-length = part-length; entries = part-entry; of-filled = part-filled }
 
--- ---- the refusal and the store
+-- ---- the refusal, the store and the head
 
-module _ {g : ℕ → ℕ} {pool : Pool} {before after : Store} {refusal : ℕ}
-    (given : refusal ≡ 0 → InRange largestPool (pool .assets) (pool .probability) (pool .correlation) × BudgetsFor g (pool .assets)) where
+head-untouched : (refusal : ℕ) (pool head : Pool) → (refusal ≡ 0 → ⊥) → head ≡ headAfter refusal pool head
+unfolding headAfter
+head-untouched zero pool head some = absurd (some refl)
+head-untouched (suc r) pool head some = refl
+
+module _ {number : ℕ} {g : ℕ → ℕ} {pool head head′ : Pool} {before after : Store} {refusal : ℕ} (fills : Fills number g pool head before after refusal head′) where
+  -- A refused call leaves the store as it was, and hands back the head that came.
+  pub fills-kept : (refusal ≡ 0 → ⊥) → (after ≡ before) × (head′ ≡ head)
+  fills-kept some = (fills .store-is ∙ sym (store-untouched _ _ _ refusal before some), fills .head-is ∙ sym (head-untouched refusal pool head some))
+
+  -- An accepted one hands back the pool.
+  pub fills-head : refusal ≡ 0 → head′ ≡ pool
+  unfolding headAfter
+  fills-head none = rw none at (fills .head-is)
+
+  -- Its pool is one that `fill` accepts, and its slices have room for the table.
+  pub fills-accepted : refusal ≡ 0 → FillAccepted largestPool (pool .assets) (pool .probability) (pool .correlation) (lengths before)
+  unfolding fillRefusal
+  fills-accepted none = fill-accepted _ _ _ _ _ refl (fills .accepted none)
+
+module _ {g : ℕ → ℕ} {pool head head′ : Pool} {before after : Store} {refusal : ℕ}
+    (given : refusal ≡ 0 → FillAccepted largestPool (pool .assets) (pool .probability) (pool .correlation) (lengths before))
+    (budgets : refusal ≡ 0 → BudgetsFor g (pool .assets)) where
   -- What holds of a store follows from which it is, at every distance that the budgets of the pool give.
   fills-left : {number : ℕ} → refusal ≡ number → after ≡ storeAfter (pool .assets) (pool .probability) (pool .correlation) refusal before
-      → Fills number g pool before after refusal
-  fills-left is left = record {
+      → head′ ≡ headAfter refusal pool head → Fills number g pool head before after refusal head′
+  unfolding fillRefusal
+  fills-left is left head-is = record {
     refusal-is = is;
     store-is = left;
-    holds = λ none. rw (left, none) (filled-holds before (given none .0) (given none .1));
-    steps-hold = λ none. steps-hold (given none .0) (given none .1);
+    head-is = head-is;
+    accepted = λ none. fill-answered _ _ _ _ _ (given none);
+    holds = λ none. rw (left, none) (filled-holds before (given none .pool .range) (budgets none));
+    steps-hold = λ none. steps-hold (given none .pool .range) (budgets none);
   }
 
-  -- The same outcome by another list that gives the same number, at another distance.
-  pub fills-apart : {f : ℕ → ℕ} {number number′ : ℕ} → number ≡ number′ → Fills number f pool before after refusal → Fills number′ g pool before after refusal
-  fills-apart same fills = fills-left (fills .refusal-is ∙ same) (fills .store-is)
+-- The same outcome by another list that gives the same number, at another distance.
+pub fills-apart : {f g : ℕ → ℕ} {pool head head′ : Pool} {before after : Store} {number number′ refusal : ℕ} → BudgetsFor g (pool .assets) → number ≡ number′
+    → Fills number f pool head before after refusal head′ → Fills number′ g pool head before after refusal head′
+fills-apart budgets same fills = fills-left (fills-accepted fills) (λ _. budgets) (fills .refusal-is ∙ same) (fills .store-is) (fills .head-is)
 
 -- A refused call, and one that fills.
-pub fills-untouched : {g : ℕ → ℕ} {pool : Pool} {before : Store} {number refusal : ℕ} → (refusal ≡ 0 → ⊥) → refusal ≡ number → Fills number g pool before before refusal
-fills-untouched some is = fills-left (λ none. absurd (some none)) is (store-untouched _ _ _ _ _ some)
+pub fills-untouched : {g : ℕ → ℕ} {pool head : Pool} {before : Store} {number refusal : ℕ} → (refusal ≡ 0 → ⊥) → refusal ≡ number
+    → Fills number g pool head before before refusal head
+fills-untouched some is =
+    fills-left (λ none. absurd (some none)) (λ none. absurd (some none)) is (store-untouched _ _ _ _ _ some) (head-untouched _ _ _ some)
 
-pub fills-filled : {pool : Pool} {before after : Store} {number : ℕ} → InRange largestPool (pool .assets) (pool .probability) (pool .correlation) → 0 ≡ number
-    → after ≡ storeAfter (pool .assets) (pool .probability) (pool .correlation) 0 before → Fills number distanceFor pool before after 0
-fills-filled range = fills-left (λ _. (range, pool-budgets (range .assets)))
+pub fills-filled : {pool head head′ : Pool} {before after : Store} {number : ℕ}
+    → FillAccepted largestPool (pool .assets) (pool .probability) (pool .correlation) (lengths before) → 0 ≡ number
+    → after ≡ storeAfter (pool .assets) (pool .probability) (pool .correlation) 0 before → head′ ≡ pool → Fills number distanceFor pool head before after 0 head′
+unfolding headAfter
+fills-filled accepted is left new = fills-left (λ _. accepted) (λ _. pool-budgets (accepted .pool .range .assets)) is left new
 
 -- What meets the contract for the same inputs is the same, at whatever distances.
-pub fills-once : {f g : ℕ → ℕ} {pool : Pool} {before after after′ : Store} {number number′ refusal refusal′ : ℕ} → number ≡ number′
-    → Fills number f pool before after refusal → Fills number′ g pool before after′ refusal′ → (refusal ≡ refusal′) × (after ≡ after′)
-fills-once same one other = let alike = one .refusal-is ∙ same ∙ sym (other .refusal-is) in (alike, rw (one .store-is, other .store-is, alike) refl)
+pub fills-once : {f g : ℕ → ℕ} {pool head left left′ : Pool} {before after after′ : Store} {number number′ refusal refusal′ : ℕ} → number ≡ number′
+    → Fills number f pool head before after refusal left → Fills number′ g pool head before after′ refusal′ left′
+    → (refusal ≡ refusal′) × (after ≡ after′) × (left ≡ left′)
+fills-once same one other =
+    let alike = one .refusal-is ∙ same ∙ sym (other .refusal-is) in
+    (alike, rw (one .store-is, other .store-is, alike) refl, rw (one .head-is, other .head-is, alike) refl)

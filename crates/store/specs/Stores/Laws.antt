@@ -26,7 +26,8 @@ pub place-triangle : (k j : ℕ) → place k j ≡ triangle k + j
 unfolding place
 place-triangle k j = omega (arith, triangle-closed k)
 
-enclosed-same : {g : ℕ} {low high low′ high′ : Kept} {v : Fraction} → low ≡ low′ → high ≡ high′ → Enclosed g low′ high′ v → Enclosed g low high v
+-- Of numbers that are the same.
+pub enclosed-same : {g : ℕ} {low high low′ high′ : Kept} {v : Fraction} → low ≡ low′ → high ≡ high′ → Enclosed g low′ high′ v → Enclosed g low high v
 enclosed-same low-is high-is enclosed = rw (low-is, high-is) enclosed
 
 module _ (n p ρ : ℕ) where

@@ -1,6 +1,6 @@
 -- `layer_loss` meets its contract.
 -- Assumes nothing.
-use mathlib.Core.Path.{_≡_, sym, _∙_}
+use mathlib.Core.Path.{_≡_, refl, sym, _∙_}
 use borrow.Author.Needs.{needs}
 use native.Mathlib.Omega.{arith}
 use Rattle.steps.specs.Inputs.{largestPool}
@@ -61,7 +61,7 @@ returns-2 c =
     let pool = else1 .before .before .before .before .args .pool in
     let is = answer .loss-is (λ side. keptRow side (pool .probability) (pool .correlation) (pool .assets)) (record { on-low = rows .low-row; on-high = rows .high-row }) in
     rw (answer .refusal-is) (record {
-      fills = fills-filled range (sym (goes-on else1) ∙ number-is (else1 .before)) (rows .store-is);
+      fills = fills-filled (given .fill) (sym (goes-on else1) ∙ number-is (else1 .before)) (rows .store-is) refl;
       replies = layer-replied is (layer-answers range (pool-budgets (range .assets)) _ _ (given .layer .to) is);
     })
 

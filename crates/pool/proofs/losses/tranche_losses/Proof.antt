@@ -1,6 +1,6 @@
 -- `tranche_losses` meets its contract.
 -- Assumes nothing.
-use mathlib.Core.Path.{_≡_, sym, _∙_}
+use mathlib.Core.Path.{_≡_, refl, sym, _∙_}
 use borrow.Author.Needs.{needs}
 use native.Mathlib.Omega.{arith}
 use Rattle.steps.specs.Inputs.{largestPool}
@@ -59,7 +59,7 @@ returns-2 c =
     let answer = c .tranche-losses .ensures in
     let are = answer .losses-are _ (record { on-low = rows .low-row; on-high = rows .high-row }) in
     rw (answer .refusal-is) (record {
-      fills = fills-filled (pool .range) (sym (goes-on else1) ∙ number-is (else1 .before)) (rows .store-is);
+      fills = fills-filled (given .fill) (sym (goes-on else1) ∙ number-is (else1 .before)) (rows .store-is) refl;
       replies = reply-answered are (answers (pool .range) (pool-budgets (pool .range .assets)) (pool .not-empty) (given .tranches .tranches) are);
     })
 

@@ -1,6 +1,6 @@
 -- `column` meets its contract.
 -- Assumes nothing.
-use mathlib.Core.Path.{_≡_, sym, _∙_}
+use mathlib.Core.Path.{_≡_, refl, sym, _∙_}
 use borrow.Author.Needs.{needs}
 use native.Mathlib.Omega.{arith}
 use lib.Dec.{lit<}
@@ -46,7 +46,7 @@ printed c =
     let range = accepted else1 .fill .pool .range in
     let rows = c .before .before .print-column .ensures .units-are _ (filled .fill-both .ensures .low-row) in
     record {
-      fills = fills-filled range (sym (goes-on else1) ∙ else1 .before .column-refusal .ensures) (filled .fill-both .ensures .store-is);
+      fills = fills-filled (accepted else1 .fill) (sym (goes-on else1) ∙ else1 .before .column-refusal .ensures) (filled .fill-both .ensures .store-is) refl;
       prints = row-printed _ (column range) rows;
     }
 

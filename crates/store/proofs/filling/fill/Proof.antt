@@ -1,6 +1,6 @@
 -- `fill` meets its contract.
 -- Assumes nothing.
-use mathlib.Core.Path.{_≡_, sym, _∙_}
+use mathlib.Core.Path.{_≡_, refl, sym, _∙_}
 use borrow.Author.Needs.{needs}
 use native.Mathlib.Omega.{arith}
 use Rattle.grounds.specs.Grounds.{fourLengths}
@@ -32,7 +32,7 @@ filled c =
     let filled = c .before .before .before .before .before .before in
     let accepted = filled .before .before .before .before .before in
     let refusal = accepted .before .fill-refusal .ensures in
-    fills-filled (fill-accepted _ _ _ _ _ refusal (goes-on accepted) .pool .range) (sym (goes-on accepted) ∙ refusal) (filled .fill-both .ensures .store-is)
+    fills-filled (fill-accepted _ _ _ _ _ refusal (goes-on accepted)) (sym (goes-on accepted) ∙ refusal) (filled .fill-both .ensures .store-is) refl
 
 pub fill-spec : {M : Type 1} → statement M
 fill-spec =

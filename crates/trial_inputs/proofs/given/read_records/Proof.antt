@@ -2,8 +2,8 @@
 -- Assumes nothing.
 use Prim.Native.Nat.{_-_}
 use borrow.Author.Needs.{needs}
-use Rattle.trial_touching.proofs.read_records.Statement.{statement}
-use Rattle.trial_touching.proofs.read_records.Tie as tie
+use Rattle.trial_inputs.proofs.given.read_records.Statement.{statement}
+use Rattle.trial_inputs.proofs.given.read_records.Tie as tie
 
 abbrev Inv-loop : tie.InvT-loop
 Inv-loop count records₀ i₀ records i = Unit {0}

@@ -2,8 +2,8 @@
 -- Assumes nothing.
 use Prim.Native.Nat.{_-_}
 use borrow.Author.Needs.{needs}
-use Rattle.trial_checks.proofs.read_claims.Statement.{statement}
-use Rattle.trial_checks.proofs.read_claims.Tie as tie
+use Rattle.trial_inputs.proofs.given.read_claims.Statement.{statement}
+use Rattle.trial_inputs.proofs.given.read_claims.Tie as tie
 
 abbrev Inv-loop : tie.InvT-loop
 Inv-loop count claims₀ i₀ claims i = Unit {0}
