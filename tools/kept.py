@@ -5,6 +5,11 @@ ZERO = (0, 0)
 ONE = (2**31, -31)
 
 
+def is_kept(x):
+    significand, _ = x
+    return significand >= 2**31 or x == ZERO
+
+
 def value(x):
     significand, exponent = x
     return significand * Fraction(2) ** exponent

@@ -5,7 +5,7 @@ from fractions import Fraction
 from functools import lru_cache, reduce
 from math import comb, floor
 
-from kept import ONE, ZERO, plus, product, quotient, rounded, value
+from kept import ONE, ZERO, is_kept, plus, product, quotient, rounded, value
 
 WHOLE = 10000
 LARGEST_POOL = 100
@@ -18,6 +18,8 @@ TRANCHES = 8
 UNITS = 100000
 HALF = Fraction(1, 2)
 LEAST_SHOWN = (2**31, -831)
+# The bytes of a store file's head.
+FILE_HEAD = 12
 
 
 @lru_cache(maxsize=None)
@@ -242,6 +244,18 @@ def desk_grounds(n, p, rho, expected, k, ceiling, lengths):
     """Of a read of row k, of the head of the store, and of the probability and the correlation that are expected of it."""
     grounds = pool_grounds(n, p, rho) + store_ground(n, lengths)
     return grounds + [(15, (p, rho) != expected), (9, k > n), (16, k > ceiling)]
+
+
+def file_length(n):
+    """The bytes of a store file."""
+    return FILE_HEAD + 8 * (n + 1) * (n + 2)
+
+
+def file_grounds(n, p, rho, length, lengths, entries):
+    """Of writing a store file of so many bytes and of reading one, by its head, with the entries of both sides that go into it or
+    that it holds."""
+    grounds = [(17, length < FILE_HEAD)] + pool_grounds(n, p, rho) + [(17, length != file_length(n))] + store_ground(n, lengths)
+    return grounds + [(18, not all(map(is_kept, entries)))]
 
 
 def beta_pool_grounds(n, p, rho):

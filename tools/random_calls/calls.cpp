@@ -3,6 +3,7 @@
 #include <string>
 #include "claims.hpp"
 #include "exact.hpp"
+#include "files.hpp"
 #include "grounds.hpp"
 #include "lent.hpp"
 #include "library.hpp"
@@ -269,6 +270,58 @@ static void read_call(Random &random, Tally &tally) {
     tally.count(given.head, given.refusal, answer == given.refusal && row.as_wanted() && store.as_wanted());
 }
 
+static size_t file_bytes(uint32_t n) { return FILE_HEAD + 4 * NUMBER * places(n); }
+
+// Fills the store for a pool, or with random kept numbers, in as many places as all slices have; or leaves random words. Then one
+// entry of some stores is changed.
+static void put_contents(Random &random, Pool pool, LentStore &store) {
+    uint32_t kind = random.below(100);
+    size_t count = std::min(places(pool.assets), store.shortest());
+    if (kind < 60) put_store(pool, store);
+    if (kind >= 60 && kind < 95) put_random_entries(random, count, store.held());
+    if (random.percent(30)) spoil_entry(random, store.shortest(), store.held());
+    store.settle();
+}
+
+static void write_file_call(Random &random, Tally &tally) {
+    Pool head = random_pool(random);
+    LentStore store(random, places(head.assets));
+    Lent<uint8_t> file(random, random_file_length(random, file_bytes(head.assets)));
+    put_contents(random, head, store);
+    uint32_t refusal = write_refusal(head, file.length, store.shortest(), store.held());
+    if (refusal == 0) {
+        put_head(head, file.wanted_data());
+        put_entries(places(head.assets), store.held(), file.wanted_data());
+    }
+    uint32_t answer = trial_write_file(POOL_OF(head), SLICES_OF(store), SLICE_OF(file));
+    tally.count(head, refusal, answer == refusal && file.as_wanted() && store.as_wanted());
+}
+
+// The file of a store, of which the end or a byte may not be as it was, or another head; or random bytes.
+static void put_file(Random &random, Pool head, Lent<uint8_t> &file) {
+    LentStore store(random, places(head.assets));
+    std::vector<uint8_t> bytes(file_bytes(head.assets));
+    put_contents(random, head, store);
+    if (store.shortest() >= places(head.assets)) put_entries(places(head.assets), store.held(), bytes.data());
+    put_head(head, bytes.data());
+    if (random.percent(97)) std::copy_n(bytes.data(), std::min(bytes.size(), file.length), file.data());
+    if (random.percent(3) && file.length >= FILE_HEAD) put_head(random_pool(random), file.data());
+    if (random.percent(30) && file.length > 0) spoil_byte(random, file.data()[random.below(uint32_t(file.length))]);
+    file.wanted = file.held;
+}
+
+static void read_file_call(Random &random, Tally &tally) {
+    Pool head = random_pool(random);
+    LentStore store(random, places(head.assets));
+    Lent<uint8_t> file(random, random_file_length(random, file_bytes(head.assets)));
+    put_file(random, head, file);
+    uint32_t refusal = read_refusal(file.data(), file.length, store.shortest());
+    if (file.length >= FILE_HEAD) head = head_in(file.data());
+    if (refusal == 0) take_entries(places(head.assets), file.data(), store.wanted(head));
+    uint32_t answer = trial_read_file(HEAD_OF(store), SLICE_OF(file), SLICES_OF(store));
+    tally.count(head, refusal, answer == refusal && file.as_wanted() && store.as_wanted());
+}
+
 static const struct {
     const char *name;
     void (*call)(Random &, Tally &);
@@ -287,6 +340,8 @@ static const struct {
     {"layer_loss", layer_call},
     {"check_column", check_call},
     {"desk read", read_call},
+    {"store_file write", write_file_call},
+    {"store_file read", read_file_call},
 };
 
 // The number of calls of each kind, the seed, and the only kind to be tried, if there is one.

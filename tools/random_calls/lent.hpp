@@ -46,6 +46,13 @@ struct LentStore {
         return {low_significands.wanted_data(), high_significands.wanted_data(), low_exponents.wanted_data(),
                 high_exponents.wanted_data()};
     }
+    // What it holds is to stay.
+    void settle() {
+        low_significands.wanted = low_significands.held;
+        high_significands.wanted = high_significands.held;
+        low_exponents.wanted = low_exponents.held;
+        high_exponents.wanted = high_exponents.held;
+    }
     bool as_wanted() const {
         return low_significands.as_wanted() && high_significands.as_wanted() && low_exponents.as_wanted() &&
                high_exponents.as_wanted() && head.as_wanted();

@@ -28,5 +28,7 @@ uint32_t trial_check_column(POOL_AND_HEAD, const uint32_t *claims, size_t, STORE
 uint32_t trial_read(uint32_t, uint32_t, uint32_t, uint32_t expected_probability, uint32_t expected_correlation, uint32_t row,
                     uint32_t ceiling, READ_SLICES, uint32_t *low_significands, uint32_t *high_significands,
                     int32_t *low_exponents, int32_t *high_exponents);
+uint32_t trial_write_file(uint32_t, uint32_t, uint32_t, READ_SLICES, uint8_t *file, size_t);
+uint32_t trial_read_file(uint32_t *head, const uint8_t *file, size_t, STORE_SLICES);
 size_t trial_reply(const uint8_t *start, size_t count, uint8_t *text);
 }

@@ -5,10 +5,11 @@
 #include <cstdio>
 #include <cstdlib>
 #include <cstring>
+#include "files.hpp"
 #include "library.hpp"
 #include "steps.hpp"
 
-static constexpr size_t PLACES = LARGEST_POOL * (LARGEST_POOL + 3) / 2 + 1;
+static constexpr size_t PLACES = LARGEST_POOL * (LARGEST_POOL + 3) / 2 + 1, FILE_BYTES = FILE_HEAD + 4 * NUMBER * PLACES;
 
 // All that a call writes and answers.
 struct Arrays {
@@ -22,6 +23,7 @@ struct Arrays {
     Verdict verdict;
     uint32_t low_row_significands[ROWS], high_row_significands[ROWS];
     int32_t low_row_exponents[ROWS], high_row_exponents[ROWS];
+    uint8_t file[FILE_BYTES];
 
     Store store() { return {low_significands, high_significands, low_exponents, high_exponents}; }
 };
@@ -67,6 +69,17 @@ static void library_read(Pool pool) {
                by_library.high_row_exponents);
 }
 
+static size_t file_bytes(Pool pool) { return FILE_HEAD + 4 * NUMBER * row_start(pool.assets + 1); }
+
+static void library_write_file(Pool pool) {
+    trial_write_file(POOL_OF(pool), SLICES_OF(by_library), by_library.file, file_bytes(pool));
+}
+
+// The file that was written last.
+static void library_read_file(Pool pool) {
+    trial_read_file(by_library.head, by_library.file, file_bytes(pool), SLICES_OF(by_library));
+}
+
 static void library_check(Pool pool) {
     Verdict &verdict = by_library.verdict;
     verdict.kind = trial_check_column(POOL_OF(pool), by_library.head, claims, ROWS, SLICES_OF(by_library), &verdict.number);
@@ -108,6 +121,19 @@ static void steps_read(Pool pool) {
     }
 }
 
+static void steps_write_file(Pool pool) {
+    size_t count = row_start(pool.assets + 1);
+    if (entries_ground(count, by_steps.store())) return;
+    put_head(pool, by_steps.file);
+    put_entries(count, by_steps.store(), by_steps.file);
+}
+
+static void steps_read_file(Pool pool) {
+    size_t count = row_start(pool.assets + 1);
+    if (entries_ground(count, by_steps.file)) return;
+    take_entries(count, by_steps.file, by_steps.store());
+}
+
 static double microseconds(void (*call)(Pool), Pool pool, int batch) {
     auto start = std::chrono::steady_clock::now();
     for (int i = 0; i < batch; i++) call(pool);
@@ -141,6 +167,8 @@ int main(int count, char **words) {
             compare("layer_loss, all defaults", library_layer, steps_layer, pool, runs);
             compare("check_column", library_check, steps_check, pool, runs);
             compare("desk read, last row", library_read, steps_read, pool, runs);
+            compare("store_file write", library_write_file, steps_write_file, pool, runs);
+            compare("store_file read", library_read_file, steps_read_file, pool, runs);
             if (assets <= REPORT_POOL) compare("shift_list", library_shifts, steps_shifts, pool, runs);
         }
 }

@@ -55,6 +55,13 @@ inline Bounds entry_at(Store store, size_t place) {
             {store.high_significands[place], store.high_exponents[place]}};
 }
 
+inline void put_entry(Bounds entry, size_t place, Store store) {
+    store.low_significands[place] = entry.low.significand;
+    store.high_significands[place] = entry.high.significand;
+    store.low_exponents[place] = entry.low.exponent;
+    store.high_exponents[place] = entry.high.exponent;
+}
+
 inline void write_row(const Kept *row, uint32_t k, uint32_t *significands, int32_t *exponents) {
     size_t start = row_start(k);
     for (uint32_t j = 0; j <= k; j++) {

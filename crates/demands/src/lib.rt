@@ -15,7 +15,7 @@ ghost use Prim.Native.Nat.{ℕ};
 ghost use lib.ListN.{length};
 ghost use Rattle.grounds.specs.Grounds.{firstGround, rowGrounds};
 ghost use Rattle.pool.specs.Demands.{BetaColumnDemands, BetaTranchesDemands};
-ghost use Rattle.pool.specs.Demands.{lent, FillDemands, RowDemands, ColumnDemands, ShiftDemands, TranchesDemands, LayerDemands, CheckDemands, ScreenColumnDemands, ScreenTranchesDemands, DeskDemands};
+ghost use Rattle.pool.specs.Demands.{lent, FillDemands, RowDemands, ColumnDemands, ShiftDemands, TranchesDemands, LayerDemands, CheckDemands, ScreenColumnDemands, ScreenTranchesDemands, DeskDemands, WriteDemands, ReadDemands};
 
 pub fn fill(
     pool: Pool,
@@ -211,6 +211,54 @@ pub fn desk_read(
         head,
         request,
         ceiling,
+        low_significands,
+        high_significands,
+        low_exponents,
+        high_exponents,
+    )
+}
+
+pub fn write_file(
+    head: Pool,
+    low_significands: &[u32],
+    high_significands: &[u32],
+    low_exponents: &[i32],
+    high_exponents: &[i32],
+    file: &mut [u8],
+) -> u32
+    ensures { λ r. ⌜ WriteDemands head
+        (lent (now («low_significands» .entry)) (now («high_significands» .entry)) (now («low_exponents» .entry)) (now («high_exponents» .entry)))
+        (now (file .entry))
+        (now (file .exit))
+        r ⌝ }
+{
+    store_file::write(
+        head,
+        low_significands,
+        high_significands,
+        low_exponents,
+        high_exponents,
+        file,
+    )
+}
+
+pub fn read_file(
+    head: Pool,
+    file: &[u8],
+    low_significands: &mut [u32],
+    high_significands: &mut [u32],
+    low_exponents: &mut [i32],
+    high_exponents: &mut [i32],
+) -> Filled
+    ensures { λ r. ⌜ ReadDemands head (now (file .entry))
+        (lent (now («low_significands» .entry)) (now («high_significands» .entry)) (now («low_exponents» .entry)) (now («high_exponents» .entry)))
+        (lent (now («low_significands» .exit)) (now («high_significands» .exit)) (now («low_exponents» .exit)) (now («high_exponents» .exit)))
+        (r .refusal)
+        (r .head) ⌝ }
+{
+    store_file::read(
+        head,
+        file,
         low_significands,
         high_significands,
         low_exponents,

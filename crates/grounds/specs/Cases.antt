@@ -1,14 +1,16 @@
 -- The grounds in figures: each for every input, those that each call checks, in order, for each ground of the library inputs to which it alone applies, what
 -- a loss call answers by its tranches and their count, what a layer call answers by its first and its last default, what the screen, a shift list and the
--- program `column` answer around their ceilings, what the beta-binomial answers around full correlation, and what a desk is answered.
+-- program `column` answer around their ceilings, what the beta-binomial answers around full correlation, what a desk is answered, and what is answered of a store file.
 -- Assumes nothing.
 use Prim.Native.Nat.{ℕ, suc, _+_, _*_, _/_, _≤_, _<_}
 use mathlib.Core.Path.{_≡_, refl}
-use mathlib.Core.Bool.{true, false, cond, not, _||_}
+use mathlib.Core.Bool.{true, false, cond, not, _&&_, _||_}
 use mathlib.Core.List.{List, [], _∷_, _++_}
-use lib.Dec.{eqb, ltb}
+use lib.Dec.{eqb, ltb, leb}
+use lib.IntN.{pos, negsuc, natAbs}
 use lib.ListN.{take, replicate}
 use Rattle.model.specs.Fraction.{whole}
+use Rattle.kept.specs.declared.Kept.{Kept}
 use Rattle.steps.specs.declared.Tranche.{Tranche}
 use Rattle.steps.specs.Inputs.{largestPool, reportPool, screenPool}
 use Rattle.steps.specs.Tranches.{tranchePlaces}
@@ -16,7 +18,7 @@ use Rattle.grounds.specs.Grounds.{Ground, firstOf, firstGround, storePla
 use Rattle.grounds.specs.Grounds.{attachmentsGround, storeGround, entriesGround, rowGround, screenGround, fullCorrelationGround, countGround, layerGround, poolGrounds}
 use Rattle.grounds.specs.Grounds.{trancheGrounds, tranchesGrounds, countedGrounds, fillGrounds, rowGrounds, entriesGrounds, columnGrounds, shiftGrounds, lossGrounds}
 use Rattle.grounds.specs.Grounds.{layerGrounds, screened, Screens, screenColumnGrounds, screenLossGrounds, betaPoolGrounds, betaColumnGrounds, betaLossGrounds}
-use Rattle.grounds.specs.Grounds.{expectedGround, ceilingGround, deskGrounds}
+use Rattle.grounds.specs.Grounds.{expectedGround, ceilingGround, deskGrounds, fileBytes, isKept, someUnkept, shortFileGround, fileLengthGround, keptGround, fileFormGrounds, fileGrounds}
 
 -- The first ground that applies: one that does gives its number, whatever follows; one that does not leaves it to the others; none gives 0.
 pub first : (m : ℕ) (gs : List Ground)
@@ -27,7 +29,7 @@ unfolding firstGround firstOf
 first m gs = (refl, refl, refl)
 
 -- Each ground in figures, for every input.
-pub figures : (n p ρ R A B k units shifts count i j p′ ρ′ ceiling : ℕ) (lengths : List ℕ)
+pub figures : (n p ρ R A B k units shifts count i j p′ ρ′ ceiling bytes : ℕ) (lengths : List ℕ) (low high : ℕ → Kept) (x : Kept)
     → (assetsGround largestPool n ≡ record { number = 1; applies = eqb n 0 || ltb 100 n })
     × (assetsGround reportPool n ≡ record { number = 1; applies = eqb n 0 || ltb 64 n })
     × (probabilityGround p ≡ record { number = 2; applies = ltb 10000 p })
@@ -45,9 +47,13 @@ pub figures : (n p ρ R A B k units shifts count i j p′ ρ′ ceiling : ℕ) (
     × (layerGround n i j ≡ record { number = 14; applies = (eqb i 0 || ltb j i) || ltb n j })
     × (expectedGround p ρ p′ ρ′ ≡ record { number = 15; applies = not (eqb p p′) || not (eqb ρ ρ′) })
     × (ceilingGround ceiling k ≡ record { number = 16; applies = ltb ceiling k })
-unfolding assetsGround probabilityGround correlationGround recoveryGround upperGround attachmentsGround storeGround entriesGround rowGround screenGround fullCorrelationGround countGround layerGround expectedGround ceilingGround storePlaces tranchePlaces largestPool reportPool screenPool whole
-figures n p ρ R A B k units shifts count i j p′ ρ′ ceiling lengths =
-    (refl, refl, refl, refl, refl, refl, refl, refl, refl, refl, refl, refl, refl, refl, refl, refl, refl)
+    × (shortFileGround bytes ≡ record { number = 17; applies = ltb bytes 12 })
+    × (fileLengthGround n bytes ≡ record { number = 17; applies = not (eqb bytes (12 + 8 * ((n + 1) * (n + 2)))) })
+    × (keptGround n low high ≡ record { number = 18; applies = someUnkept ((n + 1) * (n + 2) / 2) low || someUnkept ((n + 1) * (n + 2) / 2) high })
+    × (isKept x ≡ (leb 2147483648 (x .significand) || (eqb (x .significand) 0 && eqb (natAbs (x .exponent)) 0)))
+unfolding assetsGround probabilityGround correlationGround recoveryGround upperGround attachmentsGround storeGround entriesGround rowGround screenGround fullCorrelationGround countGround layerGround expectedGround ceilingGround shortFileGround fileLengthGround fileBytes keptGround isKept storePlaces tranchePlaces largestPool reportPool screenPool whole
+figures n p ρ R A B k units shifts count i j p′ ρ′ ceiling bytes lengths low high x =
+    (refl, refl, refl, refl, refl, refl, refl, refl, refl, refl, refl, refl, refl, refl, refl, refl, refl, refl, refl, refl, refl)
 
 -- Of the lengths of slices, some is shorter than m: one by one, and in no other way.
 pub shorter : (m l : ℕ) (ls : List ℕ) → (someShorter m [] ≡ false) × (someShorter m (l ∷ ls) ≡ (ltb l m || someShorter m ls))
@@ -60,7 +66,7 @@ pub screened-figures : {most limit n library number : ℕ} → Screens most limi
 screened-figures screens = (screens .eleven, screens .only, screens .otherwise)
 
 -- The grounds that each call checks, in order, with what it is given.
-pub orders : (most limit n p ρ k length units shifts count i j p′ ρ′ ceiling : ℕ) (t : Tranche) (ts : List Tranche) (lengths : List ℕ)
+pub orders : (most limit n p ρ k length units shifts count i j p′ ρ′ ceiling bytes : ℕ) (t : Tranche) (ts : List Tranche) (lengths : List ℕ) (low high : ℕ → Kept)
     → (fillGrounds most n p ρ lengths ≡ assetsGround most n ∷ probabilityGround p ∷ correlationGround ρ ∷ storeGround n lengths ∷ [])
     × (rowGrounds most n k length ≡ assetsGround most n ∷ storeGround n (length ∷ []) ∷ rowGround n k ∷ [])
     × (columnGrounds most n p ρ lengths units
@@ -84,8 +90,10 @@ pub orders : (most limit n p ρ k length units shifts count i j p′ ρ′ ceili
     ≡ assetsGround most n ∷ probabilityGround p ∷ correlationGround ρ ∷ fullCorrelationGround ρ ∷ countGround count ∷ tranchesGrounds (take count ts))
     × (deskGrounds most n p ρ p′ ρ′ k ceiling lengths
     ≡ assetsGround most n ∷ probabilityGround p ∷ correlationGround ρ ∷ storeGround n lengths ∷ expectedGround p ρ p′ ρ′ ∷ rowGround n k ∷ ceilingGround ceiling k ∷ [])
-unfolding fillGrounds rowGrounds entriesGrounds columnGrounds shiftGrounds lossGrounds layerGrounds screened screenColumnGrounds screenLossGrounds betaPoolGrounds betaColumnGrounds betaLossGrounds deskGrounds poolGrounds trancheGrounds tranchesGrounds countedGrounds
-orders most limit n p ρ k length units shifts count i j p′ ρ′ ceiling t ts lengths = (refl, refl, refl, refl, refl, refl, refl, refl, refl, refl, refl, refl, refl)
+    × (fileGrounds most n p ρ bytes lengths low high
+    ≡ shortFileGround bytes ∷ assetsGround most n ∷ probabilityGround p ∷ correlationGround ρ ∷ fileLengthGround n bytes ∷ storeGround n lengths ∷ keptGround n low high ∷ [])
+unfolding fillGrounds rowGrounds entriesGrounds columnGrounds shiftGrounds lossGrounds layerGrounds screened screenColumnGrounds screenLossGrounds betaPoolGrounds betaColumnGrounds betaLossGrounds deskGrounds fileFormGrounds fileGrounds poolGrounds trancheGrounds tranchesGrounds countedGrounds
+orders most limit n p ρ k length units shifts count i j p′ ρ′ ceiling bytes t ts lengths low high = (refl, refl, refl, refl, refl, refl, refl, refl, refl, refl, refl, refl, refl, refl)
 
 -- The numbers of the grounds that apply, of those of the library, with one tranche.
 abbrev applying : List Ground → List ℕ
@@ -279,3 +287,49 @@ pub desk-table :
     × (desk 101 10001 10001 10001 10001 101 101 5253 ≡ 1)
 unfolding firstOf firstGround assetsGround probabilityGround correlationGround storeGround rowGround expectedGround ceilingGround storePlaces someShorter fillGrounds deskGrounds poolGrounds largestPool whole
 desk-table = (refl, refl, refl, refl, refl, refl, refl, refl, refl, refl, refl, refl, refl, refl, refl, refl, refl, refl, refl, refl)
+
+-- Some of m numbers is no kept number: one by one, and in no other way.
+pub unkept : (m : ℕ) (f : ℕ → Kept) → (someUnkept 0 f ≡ false) × (someUnkept (suc m) f ≡ (someUnkept m f || not (isKept (f m))))
+unfolding someUnkept
+unkept m f = (refl, refl)
+
+-- A store file for one asset, three places, all of whose entries are one half, but for one of the high side.
+abbrev half : Kept
+half = record { significand = 2147483648; exponent = negsuc 31 }
+
+abbrev but : (place : ℕ) → Kept → ℕ → Kept
+but place x i = cond (eqb i place) x half
+
+abbrev file : (n p ρ bytes places place : ℕ) → Kept → ℕ
+file n p ρ bytes places place x = firstGround (fileGrounds largestPool n p ρ bytes (slices places places) (λ _. half) (but place x))
+
+-- At the edges of 17, of 7 and of 18, with entries that are kept numbers and that are none, at the last place and behind it, and with all that follows each ground wrong.
+pub file-table :
+    (file 1 10000 10000 60 3 2 half ≡ 0)
+    × (file 1 10000 10000 60 3 2 (record { significand = 4294967295; exponent = pos 2147483647 }) ≡ 0)
+    × (file 1 10000 10000 60 3 2 (record { significand = 2147483648; exponent = negsuc 2147483647 }) ≡ 0)
+    × (file 1 10000 10000 60 3 2 (record { significand = 0; exponent = pos 0 }) ≡ 0)
+    × (file 1 10000 10000 60 3 2 (record { significand = 2147483647; exponent = pos 0 }) ≡ 18)
+    × (file 1 10000 10000 60 3 2 (record { significand = 1; exponent = pos 0 }) ≡ 18)
+    × (file 1 10000 10000 60 3 2 (record { significand = 0; exponent = pos 1 }) ≡ 18)
+    × (file 1 10000 10000 60 3 2 (record { significand = 0; exponent = negsuc 0 }) ≡ 18)
+    × (file 1 10000 10000 60 3 0 (record { significand = 0; exponent = pos 1 }) ≡ 18)
+    × (file 1 10000 10000 60 3 3 (record { significand = 0; exponent = pos 1 }) ≡ 0)
+    × (file 1 10000 10000 60 2 2 (record { significand = 0; exponent = pos 1 }) ≡ 7)
+    × (file 1 10000 10000 60 2 2 half ≡ 7)
+    × (file 1 10000 10000 59 2 2 half ≡ 17)
+    × (file 1 10000 10000 61 2 2 half ≡ 17)
+    × (file 1 10000 10000 59 3 2 half ≡ 17)
+    × (file 1 10000 10000 12 3 2 half ≡ 17)
+    × (file 1 10000 10001 59 2 2 half ≡ 3)
+    × (file 1 10001 10001 59 2 2 half ≡ 2)
+    × (file 0 10001 10001 59 2 2 half ≡ 1)
+    × (file 101 10001 10001 84060 2 2 half ≡ 1)
+    × (file 101 10001 10001 12 2 2 half ≡ 1)
+    × (file 101 10001 10001 11 2 2 half ≡ 17)
+    × (file 0 0 0 0 0 0 half ≡ 17)
+    × (fileBytes 1 ≡ 60)
+    × (fileBytes 64 ≡ 34332)
+    × (fileBytes 100 ≡ 82428)
+unfolding firstOf firstGround assetsGround probabilityGround correlationGround storeGround storePlaces someShorter shortFileGround fileLengthGround fileBytes keptGround isKept someUnkept fileFormGrounds fileGrounds poolGrounds largestPool whole
+file-table = (refl, refl, refl, refl, refl, refl, refl, refl, refl, refl, refl, refl, refl, refl, refl, refl, refl, refl, refl, refl, refl, refl, refl, refl, refl, refl)

@@ -1,13 +1,15 @@
 -- The grounds on which a call says no, and what an accepted call's inputs are. Numbers and order are those of the papers.
 -- Assumes nothing.
-use Prim.Native.Nat.{ℕ, zero, suc, _+_, _*_, _/_, _≤_, _<_}
+use Prim.Native.Nat.{ℕ, zero, suc, _+_, _*_, _/_, _^_, _≤_, _<_}
 use mathlib.Core.Path.{_≡_}
-use mathlib.Core.Bool.{Bool, false, cond, not, _||_}
+use mathlib.Core.Bool.{Bool, true, false, cond, not, _&&_, _||_}
 use mathlib.Core.List.{List, [], _∷_, _++_}
-use lib.Dec.{eqb, ltb}
+use lib.Dec.{eqb, ltb, leb}
+use lib.IntN.{natAbs}
 use lib.ListN.{take}
 use Rattle.model.specs.Fraction.{whole}
 use Rattle.model.specs.Number.{triangle}
+use Rattle.kept.specs.declared.Kept.{Kept}
 use Rattle.steps.specs.declared.Tranche.{Tranche}
 use Rattle.steps.specs.Inputs.{InRange, LayerInRange}
 use Rattle.steps.specs.Tranches.{tranchePlaces, TranchesInRange}
@@ -41,6 +43,19 @@ fourLengths l = l .«low_significands» ∷ l .«high_significands» ∷ l .«lo
 unfoldable pub someShorter : ℕ → List ℕ → Bool
 someShorter m [] = false
 someShorter m (l ∷ ls) = ltb l m || someShorter m ls
+
+-- The bytes of a store file for n assets: 12 of the head, and four for each of the numbers of the store.
+unfoldable pub fileBytes : ℕ → ℕ
+fileBytes n = 12 + 8 * ((n + 1) * (n + 2))
+
+-- A significand and an exponent are a kept number: the significand is 2^31 or more, or both are 0.
+unfoldable pub isKept : Kept → Bool
+isKept x = leb (2 ^ 31) (x .significand) || (eqb (x .significand) 0 && eqb (natAbs (x .exponent)) 0)
+
+-- Some of f 0 to f (m − 1) is none.
+unfoldable pub someUnkept : ℕ → (ℕ → Kept) → Bool
+someUnkept zero f = false
+someUnkept (suc m) f = someUnkept m f || not (isKept (f m))
 
 -- ---- each ground
 
@@ -104,6 +119,18 @@ expectedGround p ρ p′ ρ′ = record { number = 15; applies = not (eqb p p′
 unfoldable pub ceilingGround : (ceiling k : ℕ) → Ground
 ceilingGround ceiling k = record { number = 16; applies = ltb ceiling k }
 
+-- The file has no room for a head.
+unfoldable pub shortFileGround : (bytes : ℕ) → Ground
+shortFileGround bytes = record { number = 17; applies = ltb bytes 12 }
+
+-- The file has not the length that its head gives it.
+unfoldable pub fileLengthGround : (n bytes : ℕ) → Ground
+fileLengthGround n bytes = record { number = 17; applies = not (eqb bytes (fileBytes n)) }
+
+-- An entry of rows 0 to n is no kept number, on the low side or on the high one.
+unfoldable pub keptGround : (n : ℕ) (low high : ℕ → Kept) → Ground
+keptGround n low high = record { number = 18; applies = someUnkept (storePlaces n) low || someUnkept (storePlaces n) high }
+
 -- ---- the grounds of each call, in order; `most` is its ceiling on the assets
 
 -- 1 to 3, on the pool.
@@ -155,6 +182,15 @@ layerGrounds most n p ρ i j lengths = poolGrounds most n p ρ ++ (layerGround n
 unfoldable pub deskGrounds : (most n p ρ p′ ρ′ k ceiling : ℕ) (lengths : List ℕ) → List Ground
 deskGrounds most n p ρ p′ ρ′ k ceiling lengths =
     fillGrounds most n p ρ lengths ++ (expectedGround p ρ p′ ρ′ ∷ rowGround n k ∷ ceilingGround ceiling k ∷ [])
+
+-- 17, 1 to 3 on a head, 17 and 7: what is checked of a file before its entries.
+unfoldable pub fileFormGrounds : (most n p ρ bytes : ℕ) (lengths : List ℕ) → List Ground
+fileFormGrounds most n p ρ bytes lengths =
+    shortFileGround bytes ∷ (poolGrounds most n p ρ ++ (fileLengthGround n bytes ∷ storeGround n lengths ∷ []))
+
+-- The same and 18, of a file that is written and of one that is read. Head and entries are those that are given to be written, or those of the file.
+unfoldable pub fileGrounds : (most n p ρ bytes : ℕ) (lengths : List ℕ) (low high : ℕ → Kept) → List Ground
+fileGrounds most n p ρ bytes lengths low high = fileFormGrounds most n p ρ bytes lengths ++ (keptGround n low high ∷ [])
 
 -- On the quote screen, which has a limit of its own: the same with 11 directly after the first.
 unfoldable pub screened : (limit n : ℕ) → List Ground → List Ground
@@ -228,6 +264,19 @@ pub record LayerAccepted (most n p ρ i j : ℕ) (lengths : List ℕ) : Type 0 w
 pub record DeskAccepted (most n p ρ k : ℕ) (lengths : List ℕ) : Type 0 where
   pub fill : FillAccepted most n p ρ lengths
   pub row : k ≤ n
+
+pub record FileFormAccepted (most n p ρ bytes : ℕ) (lengths : List ℕ) : Type 0 where
+  pub fill : FillAccepted most n p ρ lengths
+  pub length : bytes ≡ fileBytes n
+
+-- Each of f 0 to f (m − 1) is a kept number.
+pub record AllKept (m : ℕ) (f : ℕ → Kept) : Type 0 where
+  pub at : (i : ℕ) → i < m → isKept (f i) ≡ true
+
+pub record FileAccepted (most n p ρ bytes : ℕ) (lengths : List ℕ) (low high : ℕ → Kept) : Type 0 where
+  pub form : FileFormAccepted most n p ρ bytes lengths
+  pub low-kept : AllKept (triangle (suc n)) low
+  pub high-kept : AllKept (triangle (suc n)) high
 
 pub record BetaPoolAccepted (most n p ρ : ℕ) : Type 0 where
   pub pool : PoolAccepted most n p ρ

@@ -9,6 +9,8 @@
 -- a unit off passes, and one that passes is at most half a unit and 100,000 × (high − low) off, which is at most 1.5 units for up to 64 assets and 2.5 for more.
 -- Of tranches that touch from 0 to 10,000 with one R, the exact losses, each times B − A, add to p × (10,000 − R) / 10,000; the low bounds, and the low numbers that are
 -- answered, add to no more than that, the high ones to no less.
+-- A store file has 12 + 8 × (n+1)(n+2) bytes, which say the head and the entries; reading accepts those that some head and some kept numbers are written to, and no other,
+-- and gives the head, the entries and the bounds back of a store that was filled.
 -- A row that a desk reads has the bounds of the store that was filled, with the distance of its row; what else a store holds plays no part.
 -- Assumes nothing.
 use Prim.Native.Nat.{ℕ, suc, _+_, _-_, _*_, _/_, _%_, _^_, _≤_, _<_}
@@ -41,7 +43,7 @@ use Rattle.steps.specs.CorrelatedBinomial.Exponents.{PoolNumber}
 use Rattle.steps.specs.BetaBinomial.{keptEntry, keptBetaDefaults, BetaNumber}
 use Rattle.steps.specs.Inputs.{distanceFor}
 use Rattle.steps.specs.declared.Tranche.{Tranche}
-use Rattle.grounds.specs.Grounds.{Ground, firstGround, fillGrounds, rowGrounds, columnGrounds, shiftGrounds, lossGrounds, layerGrounds, screenColumnGrounds, screenLossGrounds, Screens, betaColumnGrounds, betaLossGrounds, deskGrounds}
+use Rattle.grounds.specs.Grounds.{Ground, firstGround, fillGrounds, rowGrounds, columnGrounds, shiftGrounds, lossGrounds, layerGrounds, screenColumnGrounds, screenLossGrounds, Screens, betaColumnGrounds, betaLossGrounds, deskGrounds, fileGrounds}
 use Rattle.store.specs.declared.Pool.{Pool}
 use Rattle.store.specs.Stores.{Store, store}
 use Rattle.expected_losses.specs.declared.Loss.{Loss}
@@ -545,3 +547,105 @@ module _ (p′ ρ′ k ceiling : ℕ) where
         → (refusal ≡ refusal₂) × (low ≡ low₂) × (high ≡ high₂)
     pub of-filled : (parts : ℕ → ℕ) (pool came : Pool) (before after : Slices) → StoreDemands pool parts came before after 0 head → SameRow k s after
         → FilledRowDemands parts pool refusal low high
+
+-- ---- a store file
+
+-- Byte k of a number, from the lowest.
+unfoldable pub byteFrom : (k x : ℕ) → ℕ
+byteFrom k x = x / 256 ^ k % 256
+
+-- A number in two's complement, of 32 bits, and the way back.
+unfoldable pub complement : ℤ → ℕ
+complement (pos x) = x
+complement (negsuc x) = 4294967295 - x
+
+unfoldable pub fromComplement : ℕ → ℤ
+fromComplement w = cond (ltb w 2147483648) (pos w) (negsuc (4294967295 - w))
+
+-- The places of rows 0 to n.
+abbrev pub tablePlaces : ℕ → ℕ
+tablePlaces n = (n + 1) * (n + 2) / 2
+
+-- Number i of m that stand in a file from a place on: its bytes from the lowest to the highest are m places apart.
+unfoldable pub numberFrom : (file : List ℕ) (at m i : ℕ) → ℕ
+numberFrom file at m i =
+    getD file (at + i) 0 + 256 * getD file (at + (m + i)) 0 + 65536 * getD file (at + (2 * m + i)) 0 + 16777216 * getD file (at + (3 * m + i)) 0
+
+-- The head of a file, and entry i of either side.
+unfoldable pub headOf : List ℕ → Pool
+headOf file = record { assets = numberFrom file 0 1 0; probability = numberFrom file 4 1 0; correlation = numberFrom file 8 1 0 }
+
+unfoldable pub entryFrom : (file : List ℕ) (at m i : ℕ) → Kept
+entryFrom file at m i = record { significand = numberFrom file at m i; exponent = fromComplement (numberFrom file (at + 4 * m) m i) }
+
+unfoldable pub entryOf : Side → (file : List ℕ) → ℕ → Kept
+entryOf Low file = entryFrom file 12 (tablePlaces (headOf file .assets))
+entryOf High file = let m = tablePlaces (headOf file .assets) in entryFrom file (12 + 8 * m) m
+
+-- An entry of a slice is a kept number: its significand is from 2^31 to 2^32 − 1, or both its numbers are 0. Its exponent is from −2^31 to 2^31 − 1.
+pub record EntryDemands (x : Kept) : Type 0 where
+  pub number : (x ≡ keptZero) ⊎ ((2147483648 ≤ x .significand) × (x .significand < 4294967296))
+  pub exponent : (negsuc 2147483647 ≤ℤ x .exponent) × (x .exponent ≤ℤ pos 2147483647)
+
+-- Each slice has m places.
+pub record RoomDemands (m : ℕ) (s : Slices) : Type 0 where
+  pub lowSignificands : m ≤ length (s .lowSignificands)
+  pub highSignificands : m ≤ length (s .highSignificands)
+  pub lowExponents : m ≤ length (s .lowExponents)
+  pub highExponents : m ≤ length (s .highExponents)
+
+-- The same numbers at the first m places.
+pub record SameEntries (m : ℕ) (s t : Slices) : Type 0 where
+  pub entries : (side : Side) (i : ℕ) → i < m → numberOn side s i ≡ numberOn side t i
+
+-- The bytes of a file, with m = (n+1)(n+2)/2: three numbers of the head, and then four arrays, each with the lowest bytes of its m numbers first, and the highest last.
+pub record FileDemands (head : Pool) (s : Slices) (file : List ℕ) : Type 0 where
+  pub size : length file ≡ 12 + 8 * ((head .assets + 1) * (head .assets + 2))
+  pub assets : (k : ℕ) → k < 4 → getD file k 0 ≡ byteFrom k (head .assets)
+  pub probability : (k : ℕ) → k < 4 → getD file (4 + k) 0 ≡ byteFrom k (head .probability)
+  pub correlation : (k : ℕ) → k < 4 → getD file (8 + k) 0 ≡ byteFrom k (head .correlation)
+  pub low-significands : (k i : ℕ) → k < 4 → i < tablePlaces (head .assets)
+      → getD file (12 + (k * tablePlaces (head .assets) + i)) 0 ≡ byteFrom k (getD (s .lowSignificands) i 0)
+  pub low-exponents : (k i : ℕ) → k < 4 → i < tablePlaces (head .assets)
+      → getD file (12 + ((4 + k) * tablePlaces (head .assets) + i)) 0 ≡ byteFrom k (complement (getD (s .lowExponents) i (pos 0)))
+  pub high-significands : (k i : ℕ) → k < 4 → i < tablePlaces (head .assets)
+      → getD file (12 + ((8 + k) * tablePlaces (head .assets) + i)) 0 ≡ byteFrom k (getD (s .highSignificands) i 0)
+  pub high-exponents : (k i : ℕ) → k < 4 → i < tablePlaces (head .assets)
+      → getD file (12 + ((12 + k) * tablePlaces (head .assets) + i)) 0 ≡ byteFrom k (complement (getD (s .highExponents) i (pos 0)))
+
+-- A file that some head of 1 to 100 assets and some four arrays of kept numbers are written to.
+pub record WrittenDemands (head : Pool) (s : Slices) (file : List ℕ) : Type 0 where
+  pub assets : (1 ≤ head .assets) × (head .assets ≤ 100)
+  pub probability : head .probability ≤ 10000
+  pub correlation : head .correlation ≤ 10000
+  pub room : RoomDemands (tablePlaces (head .assets)) s
+  pub entries : (side : Side) (i : ℕ) → i < tablePlaces (head .assets) → EntryDemands (numberOn side s i)
+  pub bytes : FileDemands head s file
+
+-- The slices are lent to be read, so that no call can write to them. Every file of bytes that is written from the head and the slices is what the call leaves. A head and entries
+-- that an accepted call left are written to every file of the right size.
+pub record WriteDemands (head : Pool) (s : Slices) (before after : List ℕ) (refusal : ℕ) : Type 0 where
+  pub one : Demand1 (fileGrounds 100 (head .assets) (head .probability) (head .correlation) (length before) (lengthsOf s) (numberOn Low s) (numberOn High s)) refusal before after
+  pub written : refusal ≡ 0 → WrittenDemands head s after
+  pub of-written : (file : List ℕ) → ((i : ℕ) → getD file i 0 < 256) → WrittenDemands head s file → length before ≡ length file → (refusal ≡ 0) × (after ≡ file)
+  pub of-filled : (parts : ℕ → ℕ) (pool came : Pool) (before₀ after₀ : Slices) → StoreDemands pool parts came before₀ after₀ 0 head
+      → SameEntries (tablePlaces (pool .assets)) s after₀ → RoomDemands (tablePlaces (pool .assets)) s
+      → length before ≡ 12 + 8 * ((pool .assets + 1) * (pool .assets + 2)) → refusal ≡ 0
+
+-- The file is lent to be read. `head` came. A file is accepted into slices that are long enough exactly if it is written from some head and some kept numbers, which it gives
+-- back. Of the head and the entries that an accepted call left it gives back the bounds; of other files nothing of the kind is said.
+pub record ReadDemands (head : Pool) (file : List ℕ) (before after : Slices) (refusal : ℕ) (head′ : Pool) : Type 0 where
+  pub one : Demand1
+      (fileGrounds 100 (headOf file .assets) (headOf file .probability) (headOf file .correlation) (length file) (lengthsOf before) (entryOf Low file) (entryOf High file))
+      refusal before after
+  pub head-is : refusal ≡ 0 → head′ ≡ headOf file
+  pub head-kept : (refusal ≡ 0 → ⊥) → head′ ≡ head
+  pub entries : refusal ≡ 0 → (side : Side) (i : ℕ) → i < tablePlaces (head′ .assets) → numberOn side after i ≡ entryOf side file i
+  pub lengths : refusal ≡ 0 → lengthsOf after ≡ lengthsOf before
+  pub later : refusal ≡ 0 → from (tablePlaces (head′ .assets)) after ≡ from (tablePlaces (head′ .assets)) before
+  pub written : refusal ≡ 0 → WrittenDemands head′ after file
+  pub of-written : (head₀ : Pool) (s : Slices) → WrittenDemands head₀ s file → RoomDemands (tablePlaces (head₀ .assets)) before
+      → (refusal ≡ 0) × (head′ ≡ head₀) × SameEntries (tablePlaces (head₀ .assets)) after s
+  pub of-filled : (parts : ℕ → ℕ) (pool came head₀ : Pool) (before₀ after₀ s : Slices) (old : List ℕ) → StoreDemands pool parts came before₀ after₀ 0 head₀
+      → SameEntries (tablePlaces (pool .assets)) s after₀ → WriteDemands head₀ s old file 0 → RoomDemands (tablePlaces (pool .assets)) before
+      → (refusal ≡ 0) × (head′ ≡ head₀) × SameEntries (tablePlaces (pool .assets)) after after₀ × TableDemands pool parts after

@@ -16,7 +16,7 @@ ghost use mathlib.Core.Path.{_≡_};
 ghost use mathlib.Core.List.{[], _∷_};
 ghost use Rattle.grounds.specs.Grounds.{firstGround, fourLengths, assetsGround, screenGround};
 ghost use Rattle.grounds.specs.Grounds.{fillGrounds, rowGrounds, entriesGrounds, columnGrounds, shiftGrounds, lossGrounds, layerGrounds, deskGrounds};
-ghost use Rattle.grounds.specs.Grounds.{betaPoolGrounds, betaColumnGrounds, betaLossGrounds};
+ghost use Rattle.grounds.specs.Grounds.{fileFormGrounds, betaPoolGrounds, betaColumnGrounds, betaLossGrounds};
 
 // 1 and 11: what the quote screen, which has a limit of its own, checks first.
 pub fn screen_refusal(most: u32, limit: u32, n: u32) -> u32
@@ -116,6 +116,25 @@ pub fn desk_refusal(
     let of_row = ground(9, k > n);
     let of_ceiling = ground(16, k > ceiling);
     first(of_fill, first(of_head, first(of_row, of_ceiling)))
+}
+
+// The bytes of a store file's head.
+pub const FILE_HEAD: usize = 12;
+
+// 17 of a file of so many bytes that is too short for a head; 1 to 3 on a head, 17 of a file that has another length than the head
+// gives it, and 7.
+pub fn file_refusal(most: u32, n: u32, p: u32, rho: u32, bytes: usize, lengths: Lengths) -> u32
+    ensures { λ r. ⌜ r ≡ firstGround (fileFormGrounds most n p rho bytes (fourLengths lengths)) ⌝ }
+{
+    if bytes < FILE_HEAD {
+        return 17;
+    }
+    let rest = bytes - FILE_HEAD;
+    let of_pool = pool_refusal(most, n, p, rho);
+    let as_long = (rest / 16 == store_places(n)) & (rest % 16 == 0);
+    let of_length = ground(17, !as_long);
+    let of_store = store_refusal(n, lengths);
+    first(of_pool, first(of_length, of_store))
 }
 
 // 1 to 3 and 12.

@@ -1,21 +1,13 @@
 // The text that the program writes, into a lent buffer. A function put_.. writes from a place on and answers with the place
 // after it, a function write_.. writes a whole text at the start and answers with its length.
+use buffer::put_byte;
 use model::UNITS;
 ghost use Prim.Native.Nat.{suc, _+_, _*_, _≤_, _<_};
 ghost use mathlib.Core.Path.{_≡_};
-ghost use mathlib.Core.List.{[], _∷_};
 ghost use lib.ListN.{length};
 ghost use Rattle.model.specs.Number.{sum};
+ghost use Rattle.buffer.specs.Stores.{HasRoom, Puts};
 ghost use Rattle.text.specs.Table.{decimal, fieldText, line, rowOf, columnText, refusedText, refusedLine, Writes};
-ghost use Rattle.text.specs.Table.Stores.{HasRoom, Puts};
-
-fn put_byte(text: &mut [u8], at: usize, byte: u8) -> usize
-    requires { ⌜ HasRoom (byte ∷ []) at (now text) ⌝ }
-    ensures { λ r. ⌜ Puts (byte ∷ []) at (now (text .entry)) (now (text .exit)) r ⌝ }
-{
-    text[at] = byte;
-    at + 1
-}
 
 fn put_bytes(text: &mut [u8], at: usize, bytes: &[u8]) -> usize
     requires { ⌜ HasRoom (now bytes) at (now text) ⌝ }

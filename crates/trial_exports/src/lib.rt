@@ -445,6 +445,47 @@ pub extern "C" fn trial_read(
     answer.refusal
 }
 
+#[no_mangle]
+pub extern "C" fn trial_write_file(
+    assets: u32,
+    probability: u32,
+    correlation: u32,
+    low_significands: &[u32],
+    high_significands: &[u32],
+    low_exponents: &[i32],
+    high_exponents: &[i32],
+    file: &mut [u8],
+) -> u32 {
+    store_file::write(
+        pool_of(assets, probability, correlation),
+        low_significands,
+        high_significands,
+        low_exponents,
+        high_exponents,
+        file,
+    )
+}
+
+#[no_mangle]
+pub extern "C" fn trial_read_file(
+    head: &mut [u32; HEAD],
+    file: &[u8],
+    low_significands: &mut [u32],
+    high_significands: &mut [u32],
+    low_exponents: &mut [i32],
+    high_exponents: &mut [i32],
+) -> u32 {
+    let filled = store_file::read(
+        head_of(head),
+        file,
+        low_significands,
+        high_significands,
+        low_exponents,
+        high_exponents,
+    );
+    write_filled(filled, head)
+}
+
 // The reply of the program `column` to an input, and its length.
 #[no_mangle]
 pub extern "C" fn trial_reply(start: &[u8; 64], count: usize, text: &mut [u8; 1_125]) -> usize {

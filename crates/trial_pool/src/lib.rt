@@ -43,7 +43,7 @@ const MARK: u32 = 1_000_000_007;
 const INTEGER_MARK: i32 = 1_000_007;
 
 // The first places of a slice, as many as asked for or as there are.
-fn first_naturals(places: &mut [u32], count: usize) -> &mut [u32] {
+pub fn first_naturals(places: &mut [u32], count: usize) -> &mut [u32] {
     if count < places.len() {
         &mut places[0..count]
     } else {
@@ -51,7 +51,7 @@ fn first_naturals(places: &mut [u32], count: usize) -> &mut [u32] {
     }
 }
 
-fn first_integers(places: &mut [i32], count: usize) -> &mut [i32] {
+pub fn first_integers(places: &mut [i32], count: usize) -> &mut [i32] {
     if count < places.len() {
         &mut places[0..count]
     } else {

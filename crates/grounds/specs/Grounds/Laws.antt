@@ -1,12 +1,14 @@
 -- The first ground of two lists, what the inputs of an accepted call are, that tranches past the count play no part, when a fill, a column and a desk are answered, by
 -- what a desk is refused, and when the screen and the beta-binomial refuse as the library.
 -- Assumes nothing.
-use Prim.Native.Nat.{ℕ, zero, suc, _+_, _*_, _≤_, _<_}
+use Prim.Native.Nat.{ℕ, zero, suc, _+_, _-_, _*_, _/_, _%_, _≤_, _<_}
 use mathlib.Core.Path.{_≡_, refl, sym, ap, subst, _∙_}
 use mathlib.Core.Bool.{Bool, true, false, cond, not, _&&_, _||_, true≢false}
 use mathlib.Core.List.{List, [], _∷_, _++_}
 use native.Mathlib.Nat.{le-trans, mul-le-mul}
+use native.Mathlib.Numerals.{add-one}
 use native.Mathlib.Omega.{arith}
+use borrow.Author.Count.{below-more}
 use borrow.Author.Tests.{ltb-false, eqb-true, eqb-false, not-false, ltb-true, lt-ltb, le-ltb, eq-eqb, ne-eqb}
 use lib.Dec.{T, eqb, ltb, leb, ltb→lt, leb→le, lit<}
 use lib.ListN.{length, take, drop, length-take, drop-of-length-le}
@@ -14,6 +16,7 @@ use lib.Seq.{drop-cons, getD-take}
 use Rattle.model.specs.Fraction.{whole}
 use Rattle.model.specs.Number.{triangle}
 use Rattle.model.specs.Number.Laws.{triangle-closed, triangle-mono}
+use Rattle.kept.specs.declared.Kept.{Kept}
 use Rattle.steps.specs.declared.Tranche.{Tranche}
 use Rattle.steps.specs.Inputs.{largestPool, reportPool, TrancheInRange}
 use Rattle.steps.specs.Inputs.Laws.{report-range}
@@ -22,6 +25,8 @@ use Rattle.grounds.specs.Grounds.{Ground, firstOf, firstGround, storePla
 use Rattle.grounds.specs.Grounds.{recoveryGround, upperGround, attachmentsGround, storeGround, entriesGround, rowGround, screenGround, fullCorrelationGround}
 use Rattle.grounds.specs.Grounds.{countGround, poolGrounds, trancheGrounds, tranchesGrounds, countedGrounds, fillGrounds, rowGrounds, entriesGrounds, columnGrounds, lossGrounds}
 use Rattle.grounds.specs.Grounds.{layerGround, layerGrounds, LayerAccepted, expectedGround, ceilingGround, deskGrounds, DeskAccepted}
+use Rattle.grounds.specs.Grounds.{fileBytes, isKept, someUnkept, shortFileGround, fileLengthGround, keptGround, fileFormGrounds, fileGrounds}
+use Rattle.grounds.specs.Grounds.{FileFormAccepted, AllKept, FileAccepted}
 use Rattle.grounds.specs.Grounds.{screened, Screens, betaPoolGrounds, betaColumnGrounds, betaLossGrounds}
 use Rattle.grounds.specs.Grounds.{PoolAccepted, EachAtLeast, FillAccepted, RowAccepted, EntriesAccepted, TranchesAccepted, LossAccepted}
 use Rattle.grounds.specs.Grounds.{BetaPoolAccepted, BetaColumnAccepted, BetaLossAccepted}
@@ -118,7 +123,7 @@ first-meets test (g ∷ gs) none each =
 
 -- ---- what the inputs of an accepted call are, from the number that its grounds give
 
-neither : (s t : Bool) → (s || t) ≡ false → (s ≡ false) × (t ≡ false)
+pub neither : (s t : Bool) → (s || t) ≡ false → (s ≡ false) × (t ≡ false)
 neither true t e = absurd (true≢false e)
 neither false t e = (refl, e)
 
@@ -409,6 +414,125 @@ desk-accepted most n p ρ p′ ρ′ k ceiling lengths is none =
     let own = expectedGround p ρ p′ ρ′ ∷ rowGround n k ∷ ceilingGround ceiling k ∷ [] in
     let parts = none-of-both (fillGrounds most n p ρ lengths) own is none in
     record { fill = fill-accepted most n p ρ lengths refl (parts .0); row = ltb-false n k (none-applies own tt refl (parts .1) .1 .0) }
+
+-- ---- a store file
+
+-- As many sixteens behind the head as the store has places, and nothing else: the length that the head gives a file.
+pub file-length : (n bytes : ℕ) → 12 ≤ bytes → (eqb ((bytes - 12) / 16) (storePlaces n) && eqb ((bytes - 12) % 16) 0) ≡ eqb bytes (fileBytes n)
+unfolding fileBytes
+file-length n bytes room = by-tests (eqb ((bytes - 12) / 16) (storePlaces n)) (eqb ((bytes - 12) % 16) 0) refl refl
+  where
+    twice : 2 * storePlaces n ≡ (n + 1) * (n + 2)
+    twice = rw (store-places n) (omega (arith, triangle-closed (suc n)))
+
+    by-tests : (s t : Bool) → s ≡ eqb ((bytes - 12) / 16) (storePlaces n) → t ≡ eqb ((bytes - 12) % 16) 0
+        → (s && t) ≡ eqb bytes (12 + 8 * ((n + 1) * (n + 2)))
+    by-tests true true s-is t-is =
+        let places = eqb-true ((bytes - 12) / 16) (storePlaces n) (sym s-is) in
+        let rest = eqb-true ((bytes - 12) % 16) 0 (sym t-is) in
+        sym (eq-eqb bytes (12 + 8 * ((n + 1) * (n + 2))) (omega (arith, twice, places, rest)))
+    by-tests true false s-is t-is =
+        let rest = eqb-false ((bytes - 12) % 16) 0 (sym t-is) in
+        sym (ne-eqb bytes (12 + 8 * ((n + 1) * (n + 2))) (λ e. rest (omega (arith, twice))))
+    by-tests false t s-is t-is =
+        let places = eqb-false ((bytes - 12) / 16) (storePlaces n) (sym s-is) in
+        sym (ne-eqb bytes (12 + 8 * ((n + 1) * (n + 2))) (λ e. places (omega (arith, twice))))
+
+pub kept-none : {f : ℕ → Kept} → AllKept 0 f
+kept-none = record { at = λ i l. absurd (omega arith) }
+
+pub kept-more : {m : ℕ} {f : ℕ → Kept} → AllKept m f → isKept (f m) ≡ true → AllKept (m + 1) f
+kept-more {m} {f} all next = record { at = below-more (λ i. isKept (f i) ≡ true) m (all .at) next }
+
+pub kept-all : {m i : ℕ} {f : ℕ → Kept} → i ≤ m → m ≤ i → AllKept i f → AllKept m f
+kept-all most least all = record { at = λ j l. all .at j (omega arith) }
+
+all-kept : (m : ℕ) (f : ℕ → Kept) → someUnkept m f ≡ false → AllKept m f
+unfolding someUnkept
+all-kept zero f none = kept-none
+all-kept (suc m) f none =
+    let parts = neither (someUnkept m f) (not (isKept (f m))) none in
+    rw (add-one m) at (kept-more (all-kept m f (parts .0)) (not-false (isKept (f m)) (parts .1)))
+
+pub none-unkept : (m : ℕ) (f : ℕ → Kept) → AllKept m f → someUnkept m f ≡ false
+unfolding someUnkept
+none-unkept zero f all = refl
+none-unkept (suc m) f all = rw (none-unkept m f (record { at = λ i l. all .at i (omega arith) }), all .at m (omega arith)) refl
+
+pub some-unkept : (m : ℕ) (f : ℕ → Kept) (i : ℕ) → i < m → isKept (f i) ≡ false → someUnkept m f ≡ true
+some-unkept m f i l bad = by-test (someUnkept m f) refl
+  where
+    by-test : (s : Bool) → s ≡ someUnkept m f → s ≡ true
+    by-test true is = refl
+    by-test false is = absurd (true≢false (sym (all-kept m f (sym is) .at i l) ∙ bad))
+
+module _ (most n p ρ bytes : ℕ) (lengths : List ℕ) where
+  pub file-form-accepted : {r : ℕ} → r ≡ firstGround (fileFormGrounds most n p ρ bytes lengths) → r ≡ 0 → FileFormAccepted most n p ρ bytes lengths
+  unfolding fileFormGrounds fileLengthGround
+  file-form-accepted is none =
+      let own = fileLengthGround n bytes ∷ [] in
+      let parts = none-of-both (shortFileGround bytes ∷ []) (poolGrounds most n p ρ ++ (own ++ (storeGround n lengths ∷ []))) is none in
+      let between = between-accepted most n p ρ own lengths refl (parts .1) in
+      record {
+        fill = between .0;
+        length = eqb-true bytes (fileBytes n) (not-false (eqb bytes (fileBytes n)) (none-applies own tt refl (between .1) .0));
+      }
+
+  file-form-answered : FileFormAccepted most n p ρ bytes lengths → firstGround (fileFormGrounds most n p ρ bytes lengths) ≡ 0
+  unfolding firstOf firstGround fileFormGrounds shortFileGround fileLengthGround fileBytes poolGrounds assetsGround probabilityGround correlationGround storeGround
+  file-form-answered accepted =
+      let pool = accepted .fill .pool in
+      let some : n ≡ 0 → ⊥ = λ none. omega (arith, pool .not-empty) in
+      let long : 12 ≤ bytes = omega (arith, accepted .length) in
+      rw (
+        le-ltb bytes 12 long,
+        ne-eqb n 0 some,
+        le-ltb most n (pool .range .assets),
+        le-ltb whole p (pool .range .probability),
+        le-ltb whole ρ (pool .range .correlation),
+        eq-eqb bytes (12 + 8 * ((n + 1) * (n + 2))) (accepted .length),
+        store-places n,
+        none-shorter (triangle (suc n)) lengths (accepted .fill .store),
+      ) refl
+
+  module _ (low high : ℕ → Kept) where
+    -- What refuses before the entries are looked at.
+    pub file-form-refused : {r : ℕ} → r ≡ firstGround (fileFormGrounds most n p ρ bytes lengths) → (r ≡ 0 → ⊥)
+        → r ≡ firstGround (fileGrounds most n p ρ bytes lengths low high)
+    unfolding fileGrounds
+    file-form-refused {r} is some =
+        first-some r (firstGround (keptGround n low high ∷ [])) some
+        ∙ rw is (first-append (fileFormGrounds most n p ρ bytes lengths) (keptGround n low high ∷ []))
+
+    -- 17 where there is no room for a head, whatever it is.
+    pub file-short : bytes < 12 → 17 ≡ firstGround (fileGrounds most n p ρ bytes lengths low high)
+    unfolding firstOf firstGround fileGrounds fileFormGrounds shortFileGround
+    file-short l = rw (lt-ltb bytes 12 l) refl
+
+    -- 18 by the entries, and otherwise nothing.
+    pub file-by-entries : firstGround (fileFormGrounds most n p ρ bytes lengths) ≡ 0
+        → cond (someUnkept (storePlaces n) low || someUnkept (storePlaces n) high) 18 0 ≡ firstGround (fileGrounds most n p ρ bytes lengths low high)
+    unfolding firstOf firstGround fileGrounds keptGround
+    file-by-entries none =
+        sym (rw (← first-append (fileFormGrounds most n p ρ bytes lengths) (keptGround n low high ∷ []), none) (first-last _))
+
+    pub file-accepted : {r : ℕ} → r ≡ firstGround (fileGrounds most n p ρ bytes lengths low high) → r ≡ 0 → FileAccepted most n p ρ bytes lengths low high
+    unfolding fileGrounds keptGround
+    file-accepted is none =
+        let own = keptGround n low high ∷ [] in
+        let parts = none-of-both (fileFormGrounds most n p ρ bytes lengths) own is none in
+        let off = neither (someUnkept (storePlaces n) low) (someUnkept (storePlaces n) high) (none-applies own tt refl (parts .1) .0) in
+        record {
+          form = file-form-accepted refl (parts .0);
+          low-kept = rw (store-places n) at (all-kept (storePlaces n) low (off .0));
+          high-kept = rw (store-places n) at (all-kept (storePlaces n) high (off .1));
+        }
+
+    pub file-answered : FileAccepted most n p ρ bytes lengths low high → firstGround (fileGrounds most n p ρ bytes lengths low high) ≡ 0
+    unfolding firstOf
+    file-answered accepted =
+        sym (file-by-entries (file-form-answered (accepted .form)))
+        ∙ rw (store-places n, none-unkept (triangle (suc n)) low (accepted .low-kept), none-unkept (triangle (suc n)) high (accepted .high-kept)) refl
 
 -- ---- the refusal of a pool of the beta-binomial
 

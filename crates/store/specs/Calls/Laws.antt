@@ -88,7 +88,7 @@ module _ (n k : ℕ) (significands : List ℕ) {part : List ℕ} (is : part ≡ 
 
 -- ---- the refusal, the store and the head
 
-head-untouched : (refusal : ℕ) (pool head : Pool) → (refusal ≡ 0 → ⊥) → head ≡ headAfter refusal pool head
+pub head-untouched : (refusal : ℕ) (pool head : Pool) → (refusal ≡ 0 → ⊥) → head ≡ headAfter refusal pool head
 unfolding headAfter
 head-untouched zero pool head some = absurd (some refl)
 head-untouched (suc r) pool head some = refl

@@ -13,7 +13,8 @@ use Rattle.model.specs.Number.Laws.{sum-cong, between-first}
 use Rattle.text.specs.Ascii.{ascii}
 use Rattle.text.specs.Table.{line, lines, header, tableText, rowOf, tailOf, columnText, Writes}
 use Rattle.text.specs.Table.Laws.{field-length}
-use Rattle.text.specs.Table.Stores.{HasRoom, Puts, puts-none, puts-both, puts-length, written}
+use Rattle.buffer.specs.Stores.{HasRoom, Puts, puts-none, puts-both, puts-length}
+use Rattle.text.specs.Table.Stores.{written}
 
 between-all : (n : ℕ) (f : ℕ → ℕ) → sumBetween 0 n f ≡ sum (suc n) f
 unfolding sumBetween

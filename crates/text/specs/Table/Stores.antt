@@ -1,48 +1,12 @@
--- Bytes stored one after another in a buffer.
+-- A text that is stored from the start of a buffer is written there.
 -- Assumes nothing.
-use Prim.Native.Nat.{ℕ, suc, _+_, _≤_}
-use mathlib.Core.Path.{_≡_, refl, ap, sym, _∙_}
-use mathlib.Core.List.{List, [], _∷_, _++_}
-use native.Mathlib.Nat.{add-zero, zero-add}
-use native.Mathlib.Omega.{arith}
-use lib.ListN.{length, set, length-append}
-use lib.Seq.{sets, sets-eq, length-sets}
+use Prim.Native.Nat.{ℕ}
+use mathlib.Core.Path.{refl, _∙_}
+use mathlib.Core.List.{List}
+use native.Mathlib.Nat.{zero-add}
+use lib.Seq.{sets-eq}
+use Rattle.buffer.specs.Stores.{HasRoom, Puts}
 use Rattle.text.specs.Table.{Writes}
-
--- There is room for bytes from a place on.
-pub record HasRoom (bytes : List ℕ) (at : ℕ) (text : List ℕ) : Type 0 where
-  pub room : at + length bytes ≤ length text
-
--- The bytes stand in the buffer from a place on, the others as before, and the answer is the place after them.
-pub record Puts (bytes : List ℕ) (at : ℕ) (before after : List ℕ) (next : ℕ) : Type 0 where
-  pub place : next ≡ at + length bytes
-  pub content : after ≡ sets before at bytes
-
-pub puts-length : {bytes before after : List ℕ} {at next : ℕ} → Puts bytes at before after next → length after ≡ length before
-puts-length {bytes} {before} {at = at} put = ap length (put .content) ∙ length-sets before at bytes
-
-pub puts-none : (at : ℕ) (before : List ℕ) → Puts [] at before before at
-puts-none at before = record { place = sym (add-zero at); content = refl }
-
-sets-append : (first second before : List ℕ) (at : ℕ) → sets before at (first ++ second) ≡ sets (sets before at first) (at + length first) second
-sets-append [] second before at = rw add-zero refl
-sets-append (byte ∷ first) second before at =
-    let same : suc at + length first ≡ at + suc (length first) = omega arith in
-    rw (← same, sets-append first second (set before at byte) (suc at))
-
-pub puts-both : {first second before between after : List ℕ} {at middle next : ℕ} → Puts first at before between middle → Puts second middle between after next
-    → Puts (first ++ second) at before after next
-puts-both {first} {second} {before} {at = at} a b = record {
-  place = omega (arith, length-append first second, a .place, b .place);
-  content = rw (sets-append first second before at, ← a .content, ← a .place) (b .content);
-}
-
-pub room-first : {first text : List ℕ} {at : ℕ} (second : List ℕ) → HasRoom (first ++ second) at text → HasRoom first at text
-room-first {first} second room = record { room = omega (arith, length-append first second, room .room) }
-
-pub room-second : {first second before between : List ℕ} {at middle : ℕ} → HasRoom (first ++ second) at before → Puts first at before between middle
-    → HasRoom second middle between
-room-second {first} {second} room put = record { room = omega (arith, length-append first second, room .room, put .place, puts-length put) }
 
 pub written : {bytes before after : List ℕ} {next : ℕ} → HasRoom bytes 0 before → Puts bytes 0 before after next → Writes bytes before after next
 written {bytes} {before} room put = record {

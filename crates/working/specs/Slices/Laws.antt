@@ -31,7 +31,7 @@ module _ {A : Type 0} where
     | no h ↦ List·getD-append (tabulate m f) (f m ∷ []) d j (omega (arith, length-tabulate m f)) ∙ getD-tabulate m f j d (omega arith)
   ]
 
-  tabulate-same : {f g : ℕ → A} (m : ℕ) → ((i : ℕ) → i < m → f i ≡ g i) → tabulate m f ≡ tabulate m g
+  pub tabulate-same : {f g : ℕ → A} (m : ℕ) → ((i : ℕ) → i < m → f i ≡ g i) → tabulate m f ≡ tabulate m g
   unfolding tabulate
   tabulate-same zero same = refl
   tabulate-same (suc m) same = rw (tabulate-same m (λ i l. same i (omega arith)), same m (omega arith))

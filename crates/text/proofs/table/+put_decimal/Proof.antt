@@ -8,11 +8,11 @@ use borrow.Fn.Kinds.{In}
 use borrow.Fn.PlainCycle.{Measures, is, falls, and}
 use Rattle.text.specs.Table.{digit, decimal}
 use Rattle.text.specs.Table.Laws.{decimal-digit, decimal-more}
-use Rattle.text.specs.Table.Stores.{HasRoom, room-first, room-second, puts-both}
+use Rattle.buffer.specs.Stores.{HasRoom, room-first, room-second, puts-both}
 use Rattle.text.proofs.table.put_decimal.Reads as put-decimal
 use Rattle.text.proofs.table.put_decimal.Kinds as put-decimal-kinds
 use Rattle.text.proofs.table.+put_decimal.Lts-put_decimal as lts
-use Rattle.text.proofs.table.put_byte.Reads as put-byte
+use Rattle.buffer.proofs.put_byte.Reads as put-byte
 use Rattle.text.proofs.table.+put_decimal.{statement}
 use Rattle.text.proofs.table.+put_decimal.Tie.{close}
 

@@ -6,7 +6,7 @@ use native.Mathlib.Numerals.{add-one}
 use native.Mathlib.Omega.{arith}
 use lib.ListN.{length, take}
 use lib.Seq.{take-suc, take-all, length-take-le}
-use Rattle.text.specs.Table.Stores.{Puts, puts-none, puts-both, puts-length}
+use Rattle.buffer.specs.Stores.{Puts, puts-none, puts-both, puts-length}
 use Rattle.text.proofs.table.put_bytes.Statement.{statement}
 use Rattle.text.proofs.table.put_bytes.Tie as tie
 

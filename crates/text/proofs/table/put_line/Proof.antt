@@ -2,7 +2,7 @@
 -- Assumes nothing.
 use borrow.Author.Needs.{needs}
 use Rattle.text.specs.Table.{line}
-use Rattle.text.specs.Table.Stores.{room-first, room-second, puts-both}
+use Rattle.buffer.specs.Stores.{room-first, room-second, puts-both}
 use Rattle.text.proofs.table.put_line.Statement.{statement}
 use Rattle.text.proofs.table.put_line.Tie as tie
 

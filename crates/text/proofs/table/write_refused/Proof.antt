@@ -6,7 +6,8 @@ use native.Mathlib.Omega.{arith}
 use Rattle.text.specs.Ascii.{ascii}
 use Rattle.text.specs.Table.{refusedText}
 use Rattle.text.specs.Table.Laws.{field-length}
-use Rattle.text.specs.Table.Stores.{HasRoom, room-second, puts-both, written}
+use Rattle.buffer.specs.Stores.{HasRoom, room-second, puts-both}
+use Rattle.text.specs.Table.Stores.{written}
 use Rattle.text.proofs.table.write_refused.Statement.{statement}
 use Rattle.text.proofs.table.write_refused.Tie as tie
 

@@ -7,7 +7,7 @@ use native.Mathlib.Omega.{arith}
 use Rattle.text.specs.Ascii.{ascii}
 use Rattle.text.specs.Table.{header}
 use Rattle.text.specs.Table.Lines.{Lines, lines-none, row-at-most, line-room, lines-more, table-written}
-use Rattle.text.specs.Table.Stores.{Puts, puts-length}
+use Rattle.buffer.specs.Stores.{Puts, puts-length}
 use Rattle.text.proofs.table.write_table.Statement.{statement}
 use Rattle.text.proofs.table.write_table.Tie as tie
 

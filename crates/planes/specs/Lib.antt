@@ -1,0 +1,3 @@
+pub mod Planes
+pub mod Sides
+pub mod Cases
