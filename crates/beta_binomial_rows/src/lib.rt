@@ -1,4 +1,6 @@
 // Row n of a pool by the beta-binomial model, for one side: each entry is a product of quotients.
+#![tactic(auto)]
+
 ghost use Rattle.std.specs.Prelude.{◌≡◌, suc, ◌≤◌, ◌<◌};
 ghost use Rattle.model.specs.Fraction.{whole};
 ghost use Rattle.model.specs.BetaBinomial.{quotient_numerator, quotient_denominator};
@@ -12,9 +14,9 @@ use working::PLACES;
 
 // What quotient t of entry j is divided from, over 10,000².
 fn numerator(p: u32, rho: u32, j: u32, t: u32) -> u64
-    requires fact_1 { p ≤ whole }
-    requires fact_2 { rho ≤ whole }
-    requires fact_3 { t < 100 }
+    requires probability { p ≤ whole }
+    requires correlation { rho ≤ whole }
+    requires few { t < 100 }
     ensures { result ≡ quotient_numerator p rho j t }
 {
     let q = (WHOLE - rho) as u64;
@@ -28,8 +30,8 @@ fn numerator(p: u32, rho: u32, j: u32, t: u32) -> u64
 
 // What it is divided by, over the same.
 fn denominator(rho: u32, t: u32) -> u64
-    requires fact_1 { rho ≤ whole }
-    requires fact_2 { t < 100 }
+    requires correlation { rho ≤ whole }
+    requires few { t < 100 }
     ensures { result ≡ quotient_denominator rho t }
 {
     let q = (WHOLE - rho) as u64;
@@ -38,9 +40,9 @@ fn denominator(rho: u32, t: u32) -> u64
 
 // Quotient t of entry j, rounded once.
 fn quotient(p: u32, rho: u32, j: u32, t: u32, side: Side) -> Kept
-    requires fact_1 { p ≤ whole }
-    requires fact_2 { rho < whole }
-    requires fact_3 { t < 100 }
+    requires probability { p ≤ whole }
+    requires correlation { rho < whole }
+    requires few { t < 100 }
     ensures { result ≡ kept_quotient side p rho j t }
 {
     Kept::from_ratio(numerator(p, rho, j, t), denominator(rho, t), side)
@@ -48,9 +50,9 @@ fn quotient(p: u32, rho: u32, j: u32, t: u32, side: Side) -> Kept
 
 // Entry j: starting from one, its quotients are multiplied on.
 fn entry(n: u32, p: u32, rho: u32, j: u32, side: Side) -> Kept
-    requires fact_1 { InRange largest_pool n p rho }
-    requires fact_2 { rho < whole }
-    requires fact_3 { j ≤ n }
+    requires range { InRange largest_pool n p rho }
+    requires correlation { rho < whole }
+    requires within { j ≤ n }
     ensures { result ≡ kept_entry side n p rho j }
 {
     let mut product = Kept::one();
@@ -63,8 +65,8 @@ fn entry(n: u32, p: u32, rho: u32, j: u32, side: Side) -> Kept
 
 // Entries 0 to n.
 pub fn row(n: u32, p: u32, rho: u32, side: Side) -> [Kept; PLACES]
-    requires fact_1 { InRange largest_pool n p rho }
-    requires fact_2 { rho < whole }
+    requires range { InRange largest_pool n p rho }
+    requires correlation { rho < whole }
     ensures { Entries working_places (suc n) result (kept_entry side n p rho) }
 {
     let zero = Kept::zero();

@@ -1,4 +1,6 @@
 // Bytes stored one after another in a lent buffer. A function put_.. writes from a place on and answers with the place after it.
+#![tactic(auto)]
+
 ghost use Rattle.std.specs.Prelude.{[], ◌∷◌};
 ghost use Rattle.buffer.specs.Stores.{HasRoom, Puts};
 

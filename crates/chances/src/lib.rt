@@ -1,4 +1,6 @@
 // Steps 4 and 5, over any row of entries: chances, tails, the printed column. Nothing here knows the model that a row comes from.
+#![tactic(auto)]
+
 ghost use Rattle.chances.specs.Chances.{StepsReady, ChancesMade};
 
 use kept::{Kept, Side};

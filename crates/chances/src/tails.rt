@@ -35,8 +35,8 @@ pub fn tails(n: u32, chances: [Kept; PLACES], side: Side) -> [Kept; TAILS]
 
 // A number of at most two in whole units, to nearest, and up where it is half way: its half units, rounded down, plus one, halved.
 fn in_units(x: Kept) -> u32
-    requires fact_1 { IsKept x }
-    requires fact_2 { AtMost (value x) (integer 2) }
+    requires kept { IsKept x }
+    requires to_two { AtMost (value x) (integer 2) }
     ensures { result ≡ in_units x }
 {
     let halves = x.times_whole(2 * UNITS, Side::Low) as u32;
@@ -68,8 +68,8 @@ pub fn print_tails(n: u32, row: [Kept; PLACES]) -> [u32; TAILS]
 
 // Rows 0 to n, from the printed tails, into the start of the slice.
 fn print_rows(n: u32, printed: [u32; TAILS], units: &mut [u32])
-    requires fact_1 { Falling n printed }
-    requires fact_2 { n < length units.old }
+    requires falling { Falling n printed }
+    requires places { n < length units.old }
     ensures { units.new ≡ entries_after n (difference_at printed) 0 units.old }
 {
     let places = n as usize + 1;
@@ -80,8 +80,8 @@ fn print_rows(n: u32, printed: [u32; TAILS], units: &mut [u32])
 
 // The column of row n of the low side, into the start of the slice.
 pub fn print_column(n: u32, row: [Kept; PLACES], units: &mut [u32])
-    requires fact_1 { ColumnReady n row }
-    requires fact_2 { n < length units.old }
+    requires ready { ColumnReady n row }
+    requires places { n < length units.old }
     ensures { ColumnPrinted n row units.old units.new }
 {
     let printed = print_tails(n, row);

@@ -1,5 +1,7 @@
 // Claimed rows of a column, held against the bounds of the chances, over any row of entries. Nothing here knows the model that a row
 // comes from.
+#![tactic(auto)]
+
 ghost use Rattle.std.specs.Prelude.{◌≡◌};
 ghost use Rattle.steps.specs.Claims.{passes};
 ghost use Rattle.chances.specs.Chances.{Answerable};

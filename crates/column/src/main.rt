@@ -1,4 +1,6 @@
 // Answers standard input.
+#![tactic(auto)]
+
 fn main() {
     console::answer();
 }

@@ -1,4 +1,6 @@
 // Checks a column that another program printed: whether its rows can be right, and which is the first that cannot.
+#![tactic(auto)]
+
 ghost use Rattle.store.specs.Stores.{store};
 ghost use Rattle.column_check.specs.Calls.{Checks};
 
@@ -9,7 +11,7 @@ pub use steps::Verdict;
 use store::fill_both;
 
 // What the check hands back: its verdict, and the head of the store.
-#[derive(Drop)]
+#[derive(Clone, Copy)]
 pub struct FilledVerdict {
     pub verdict: Verdict,
     pub head: Pool,

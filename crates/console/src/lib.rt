@@ -1,4 +1,6 @@
 // Reads an input as far as reply's buffer goes, and writes the answer to it: the table of a column, or a refusal.
+#![tactic(auto)]
+
 use libc::{STDIN_FILENO, STDOUT_FILENO};
 
 // The input is an open file. What cannot be read counts as its end.

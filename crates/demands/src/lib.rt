@@ -1,5 +1,7 @@
 // Each call with the page of demands for its contract. Nothing is added to the calls: that these functions are proved shows that the
 // contracts in their source imply the page.
+#![tactic(auto)]
+
 ghost use Rattle.std.specs.Prelude.{◌≡◌, ℕ, length};
 ghost use Rattle.grounds.specs.Grounds.{first_ground, row_grounds};
 ghost use Rattle.pool.specs.Demands.{BetaColumnDemands, BetaTranchesDemands};

@@ -1,5 +1,7 @@
 // A desk's read of a store that several desks use: a row of it, by value, if the head of the store is what the desk expects. Any
 // numbers and slices of any length may be given. The call answers, or refuses by the number of the first ground that applies.
+#![tactic(auto)]
+
 ghost use Rattle.store.specs.Stores.{store};
 ghost use Rattle.desk.specs.Calls.{ReadsRow};
 
@@ -10,7 +12,7 @@ use steps::LARGEST_POOL;
 use working::{PLACES, read_row};
 
 // The default probability and the correlation that a desk expects of the head, and the row that it asks for.
-#[derive(Drop)]
+#[derive(Clone, Copy)]
 pub struct Request {
     pub probability: u32,
     pub correlation: u32,
@@ -18,7 +20,7 @@ pub struct Request {
 }
 
 // The number of a refusal, or 0, and the kept numbers of the row on either side, with zeros behind them. On a refusal all are zeros.
-#[derive(Drop)]
+#[derive(Clone, Copy)]
 pub struct DeskRow {
     pub refusal: u32,
     pub low: [Kept; PLACES],

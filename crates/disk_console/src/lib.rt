@@ -1,4 +1,6 @@
 // Writes the store of a pool to a file, reads the file back, and says on standard output what came of it.
+#![tactic(auto)]
+
 mod compare;
 mod files;
 mod lines;

@@ -1,5 +1,7 @@
 // Step 6, over any row of entries: the expected losses of tranches, and the answers that their two bounds give. Nothing here knows the
 // model that a row comes from.
+#![tactic(auto)]
+
 ghost use Rattle.std.specs.Prelude.{◌≡◌, ◌≤◌, ◌<◌, take, replicate};
 ghost use Rattle.model.specs.Chances.{loss_units};
 ghost use Rattle.kept.specs.Rounding.{IsKept};
@@ -16,7 +18,7 @@ use steps::{TRANCHES, Tranche};
 use working::PLACES;
 
 // The two bounds of a loss.
-#[derive(Drop)]
+#[derive(Clone, Copy)]
 pub struct Bounds {
     pub low: f64,
     pub high: f64,
@@ -24,7 +26,7 @@ pub struct Bounds {
 
 // The expected loss of a tranche or of a layer. Untouched: it is zero. Faint: its low bound is below 2^−800; the number is the greater
 // of the high bound and 2^−800. Shown: both bounds.
-#[derive(Drop)]
+#[derive(Clone, Copy)]
 pub enum Loss {
     Untouched,
     Faint(f64),
@@ -32,14 +34,14 @@ pub enum Loss {
 }
 
 // The loss of one tranche, in a struct, since an array that stands in a struct holds no enums.
-#[derive(Drop)]
+#[derive(Clone, Copy)]
 pub struct TrancheLoss {
     pub loss: Loss,
 }
 
 // What a loss call answers: the number of a refusal, or 0, and the losses of the tranches within its count, each at the place of its
 // tranche. A place past the count is untouched, and so are all on a refusal.
-#[derive(Drop)]
+#[derive(Clone, Copy)]
 pub struct Answer {
     pub refusal: u32,
     pub losses: [TrancheLoss; TRANCHES],
@@ -47,9 +49,9 @@ pub struct Answer {
 
 // The loss units of so many defaults among n assets, in the order of Moody's formula: what is lost less the lower attachment, raised to zero, cut to the width.
 fn loss_units(n: u32, defaults: u32, recovery: u32, lower: u32, upper: u32) -> u32
-    requires fact_1 { TrancheInRange recovery lower upper }
-    requires fact_2 { n ≤ working_assets }
-    requires fact_3 { defaults ≤ n }
+    requires tranche { TrancheInRange recovery lower upper }
+    requires working { n ≤ working_assets }
+    requires within { defaults ≤ n }
     ensures { result ≡ loss_units n recovery lower upper defaults }
 {
     let lost = (defaults * (WHOLE - recovery)) as i32;
@@ -60,9 +62,9 @@ fn loss_units(n: u32, defaults: u32, recovery: u32, lower: u32, upper: u32) -> u
 }
 
 // The loss units of 0 to n defaults in kept numbers. Below 2^32 these are the same on either side.
-pub fn kept_units(n: u32, tranche: Tranche) -> [Kept; PLACES]
-    requires fact_1 { TrancheInRange tranche.recovery tranche.lower tranche.upper }
-    requires fact_2 { n ≤ working_assets }
+fn kept_units(n: u32, tranche: Tranche) -> [Kept; PLACES]
+    requires tranche { TrancheInRange tranche.recovery tranche.lower tranche.upper }
+    requires working { n ≤ working_assets }
     ensures { UnitsMade n tranche result }
 {
     let zero = Kept::zero();
@@ -76,17 +78,17 @@ pub fn kept_units(n: u32, tranche: Tranche) -> [Kept; PLACES]
 }
 
 // Chance times loss units, added for 0 to n defaults, divided by the width of the tranche.
-pub fn expected_loss(
+fn expected_loss(
     n: u32,
     chances: [Kept; PLACES],
     units: [Kept; PLACES],
     tranche: Tranche,
     side: Side,
 ) -> Kept
-    requires fact_1 { LossReady side n chances tranche }
-    requires fact_2 { UnitsMade n tranche units }
-    requires fact_3 { 0 < n }
-    requires fact_4 { TrancheInRange tranche.recovery tranche.lower tranche.upper }
+    requires ready { LossReady side n chances tranche }
+    requires units { UnitsMade n tranche units }
+    requires not_empty { 0 < n }
+    requires tranche { TrancheInRange tranche.recovery tranche.lower tranche.upper }
     ensures { LossMade side n chances tranche result }
 {
     let mut total = Kept::zero();
@@ -132,7 +134,7 @@ pub fn loss_answer(low: Kept, high: Kept) -> Loss
 }
 
 // The loss of a tranche, from the chances of either side.
-pub fn tranche_loss(n: u32, low: [Kept; PLACES], high: [Kept; PLACES], tranche: Tranche) -> Loss
+fn tranche_loss(n: u32, low: [Kept; PLACES], high: [Kept; PLACES], tranche: Tranche) -> Loss
     requires { TrancheReady n low high tranche }
     ensures { TrancheAnswered n low high tranche (loss_of result) }
 {

@@ -1,5 +1,7 @@
 // The grounds on which a call says no. Each function gives the number of the first that applies to the numbers it is given,
 // or 0 where none does. Ground 1 has the call's ceiling on the assets, and slices are given by their lengths.
+#![tactic(auto)]
+
 ghost use Rattle.std.specs.Prelude.{◌≡◌, cond, [], ◌∷◌, take};
 ghost use Rattle.model.specs.Number.{triangle};
 ghost use Rattle.grounds.specs.Grounds.{first_of, first_ground, store_places, four_lengths, assets_ground, store_ground, entries_ground};
@@ -9,7 +11,7 @@ use model::WHOLE;
 use steps::{TRANCHES, Tranche};
 
 // The lengths of the four slices of a store.
-#[derive(Drop)]
+#[derive(Clone, Copy)]
 pub struct Lengths {
     pub low_significands: usize,
     pub high_significands: usize,

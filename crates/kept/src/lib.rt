@@ -1,5 +1,7 @@
 // Kept numbers: the arithmetic that every bound is made by. A method takes the side for which it works, so that one body
 // serves both.
+#![tactic(auto)]
+
 ghost use Rattle.std.specs.Prelude.{◌≡◌, ◌<◌, ◌^◌};
 ghost use Rattle.kept.specs.Rounding.{Operand, nought, unity, rounded_product, rounded_sum, rounded_quotient, of_integer, of_basis_points, of_ratio};
 
@@ -12,14 +14,14 @@ mod whole;
 use rounding::{add, long_ratio, ratio, round_once};
 
 // Which bound of an exact value a number is.
-#[derive(Drop)]
+#[derive(Clone, Copy)]
 pub enum Side {
     Low,
     High,
 }
 
 // A kept number: zero, written 0 × 2^0, or significand × 2^exponent with a significand from 2^31 to 2^32 − 1.
-#[derive(Drop)]
+#[derive(Clone, Copy)]
 pub struct Kept {
     pub significand: u32,
     pub exponent: i32,
@@ -62,8 +64,8 @@ impl Kept {
 
     // n / m, any n, and m below 2^34.
     pub fn from_ratio(n: u64, m: u64, side: Side) -> Kept
-        requires fact_1 { 0 < m }
-        requires fact_2 { m < 2 ^ 34 }
+        requires positive { 0 < m }
+        requires few { m < 2 ^ 34 }
         ensures { result ≡ of_ratio side n m }
     {
         if m < 0x1_0000_0000 {
@@ -75,8 +77,8 @@ impl Kept {
 
     // self × other
     pub fn product(self, other: Kept, side: Side) -> Kept
-        requires fact_1 { Operand self }
-        requires fact_2 { Operand other }
+        requires operand { Operand self }
+        requires other { Operand other }
         ensures { result ≡ rounded_product side self other }
     {
         let v = self.significand as u64 * other.significand as u64;
@@ -85,8 +87,8 @@ impl Kept {
 
     // self + other
     pub fn sum(self, other: Kept, side: Side) -> Kept
-        requires fact_1 { Operand self }
-        requires fact_2 { Operand other }
+        requires operand { Operand self }
+        requires other { Operand other }
         ensures { result ≡ rounded_sum side self other }
     {
         if self.significand == 0 {
@@ -104,8 +106,8 @@ impl Kept {
 
     // self / divisor
     pub fn quotient(self, divisor: u32, side: Side) -> Kept
-        requires fact_1 { Operand self }
-        requires fact_2 { 0 < divisor }
+        requires operand { Operand self }
+        requires positive { 0 < divisor }
         ensures { (above : 0 < divisor) → result ≡ rounded_quotient side self divisor above }
     {
         ratio(self.significand as u64, divisor, self.exponent, side)

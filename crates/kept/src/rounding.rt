@@ -23,8 +23,8 @@ fn one_more(side: Side, dropped: u64) -> u64
 
 // The exponent of a number that was shifted up.
 fn lowered(exponent: i32, shift: u32) -> i32
-    requires fact_1 { Reach 2000000132 exponent }
-    requires fact_2 { shift ≤ 64 }
+    requires reach { Reach 2000000132 exponent }
+    requires shift { shift ≤ 64 }
     ensures { result ≡ exponent -ℤ pos shift }
 {
     exponent - shift as i32
@@ -32,9 +32,9 @@ fn lowered(exponent: i32, shift: u32) -> i32
 
 // How far e is above f, or 32 where that is more.
 fn gap(e: i32, f: i32) -> u32
-    requires fact_1 { Reach 1000000000 e }
-    requires fact_2 { Reach 1000000000 f }
-    requires fact_3 { f ≤ℤ e }
+    requires reach { Reach 1000000000 e }
+    requires other { Reach 1000000000 f }
+    requires order { f ≤ℤ e }
     ensures { Gap e f result }
 {
     let d = (e - f) as u32;
@@ -43,8 +43,8 @@ fn gap(e: i32, f: i32) -> u32
 
 // The exponent that goes with a significand: one more for 2^32.
 fn carried_exponent(significand: u64, exponent: i32) -> i32
-    requires fact_1 { significand ≤ 2 ^ 32 }
-    requires fact_2 { Reach 2000000200 exponent }
+    requires digits { significand ≤ 2 ^ 32 }
+    requires reach { Reach 2000000200 exponent }
     ensures { result ≡ exponent +ℤ pos (significand / 2 ^ 32) }
 {
     exponent + (significand >> 32) as i32
@@ -52,8 +52,8 @@ fn carried_exponent(significand: u64, exponent: i32) -> i32
 
 // A significand of 2^32 is halved, and the exponent one more: 2^31 is taken off there, and nothing below it. Zero keeps its exponent.
 fn carried(significand: u64, exponent: i32) -> Kept
-    requires fact_1 { significand ≤ 2 ^ 32 }
-    requires fact_2 { Reach 2000000200 exponent }
+    requires digits { significand ≤ 2 ^ 32 }
+    requires reach { Reach 2000000200 exponent }
     ensures { Carried significand exponent result }
 {
     let top = significand >> 32;
@@ -79,9 +79,9 @@ fn shifted_up(v: u64) -> u64
 // Rounds once the number that is v × 2^exponent where rest is zero, and lies between that and (v + 1) × 2^exponent where rest is
 // not. In the second case v has to have all 32 digits that stay. Of zero the exponent is left open.
 fn round_digits(v: u64, rest: u64, exponent: i32, side: Side) -> Kept
-    requires fact_1 { Reach 2000000100 exponent }
-    requires fact_2 { rest < 2 ^ 34 }
-    requires fact_3 { (0 < rest → 2 ^ 31 ≤ v) }
+    requires reach { Reach 2000000100 exponent }
+    requires few { rest < 2 ^ 34 }
+    requires leading { (0 < rest → 2 ^ 31 ≤ v) }
     ensures { RoundedDigits side v rest exponent result }
 {
     let w = shifted_up(v);
@@ -94,9 +94,9 @@ fn round_digits(v: u64, rest: u64, exponent: i32, side: Side) -> Kept
 
 // The same, with the exponent 0 for zero.
 pub fn round_once(v: u64, rest: u64, exponent: i32, side: Side) -> Kept
-    requires fact_1 { Reach 2000000100 exponent }
-    requires fact_2 { rest < 2 ^ 34 }
-    requires fact_3 { (0 < rest → 2 ^ 31 ≤ v) }
+    requires reach { Reach 2000000100 exponent }
+    requires few { rest < 2 ^ 34 }
+    requires leading { (0 < rest → 2 ^ 31 ≤ v) }
     ensures { (z : Fraction) → Between v rest exponent z → result ≡ round side z }
 {
     let x = round_digits(v, rest, exponent, side);
@@ -108,8 +108,8 @@ pub fn round_once(v: u64, rest: u64, exponent: i32, side: Side) -> Kept
 
 // n / m × 2^exponent rounded once.
 pub fn ratio(n: u64, m: u32, exponent: i32, side: Side) -> Kept
-    requires fact_1 { Reach 1000000000 exponent }
-    requires fact_2 { 0 < m }
+    requires reach { Reach 1000000000 exponent }
+    requires positive { 0 < m }
     ensures { (above : 0 < m) → result ≡ round side (divided (scaled n exponent) m above) }
 {
     let w = shifted_up(n);
@@ -120,8 +120,8 @@ pub fn ratio(n: u64, m: u32, exponent: i32, side: Side) -> Kept
 // n / m rounded once by long division, for a divisor of up to 34 digits: the quotient has 30 digits or more, and the remainder
 // gives two more.
 pub fn long_ratio(n: u64, m: u64, side: Side) -> Kept
-    requires fact_1 { 4 ≤ m }
-    requires fact_2 { m < 2 ^ 34 }
+    requires least { 4 ≤ m }
+    requires few { m < 2 ^ 34 }
     ensures { (above : 0 < m) → result ≡ round side (divided (integer n) m above) }
 {
     let w = shifted_up(n);
@@ -133,10 +133,10 @@ pub fn long_ratio(n: u64, m: u64, side: Side) -> Kept
 // The sum of two numbers, the first above zero and with the larger exponent. A second one that lies 32 digits or more below the
 // first is added as if it lay 32 digits below: it changes no leading digit, and only whether it is zero counts.
 pub fn add(x: Kept, y: Kept, side: Side) -> Kept
-    requires fact_1 { Operand x }
-    requires fact_2 { Operand y }
-    requires fact_3 { Normal x.significand }
-    requires fact_4 { y.exponent ≤ℤ x.exponent }
+    requires x { Operand x }
+    requires y { Operand y }
+    requires normal { Normal x.significand }
+    requires order { y.exponent ≤ℤ x.exponent }
     ensures { result ≡ round side (plus (value x) (value y)) }
 {
     let d = gap(x.exponent, y.exponent);

@@ -20,8 +20,8 @@ impl Kept {
     // m × self in whole numbers: rounded down on the low side, up on the high side. Rounded up, v / 2^k is (v − 1) / 2^k rounded
     // down and one more, unless it is zero. With 64 binary places or more it is below one.
     pub fn times_whole(self, m: u32, side: Side) -> u64
-        requires fact_1 { IsKept self }
-        requires fact_2 { AtMost (value self) (integer 2) }
+        requires kept { IsKept self }
+        requires to_two { AtMost (value self) (integer 2) }
         ensures { result ≡ whole_of side (times (integer m) (value self)) }
     {
         let v = self.significand as u64 * m as u64;

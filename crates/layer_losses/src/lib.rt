@@ -1,5 +1,7 @@
 // The expected loss of the layer from the i-th to the j-th default, over any row of entries: the mean of the tails at i to j. Nothing
 // here knows the model that a row comes from.
+#![tactic(auto)]
+
 ghost use Rattle.layer_losses.specs.Layer.{MeanReady, MeanMade, BoundReady, BoundMade, AnswersRefusal, LayerReady, AnswersLayer};
 
 use chances::chances;
@@ -9,7 +11,7 @@ use kept::{Kept, Side};
 use working::PLACES;
 
 // What a layer call answers: the number of a refusal, or 0, and the loss, which is untouched on a refusal.
-#[derive(Drop)]
+#[derive(Clone, Copy)]
 pub struct LayerAnswer {
     pub refusal: u32,
     pub loss: Loss,

@@ -1,4 +1,5 @@
 // The exact model of a pool's defaults. It has definitions and laws, in specs/, and no function.
+#![tactic(auto)]
 
 // One, in basis points.
 pub const WHOLE: u32 = 10_000;

@@ -1,5 +1,7 @@
 // The counts of orders C(n,j), in kept numbers of one side: worked out exactly and rounded for few assets, and made by sums of kept
 // numbers for more. Either way the rows of Pascal's triangle are made in place, since a copy of each would cost more than its sums.
+#![tactic(auto)]
+
 ghost use Rattle.std.specs.Prelude.{suc, ◌≤◌};
 ghost use Rattle.model.specs.Number.{choose};
 ghost use Rattle.steps.specs.Inputs.{working_assets};
@@ -14,8 +16,8 @@ const EXACT_ASSETS: u32 = 64;
 
 // C(n,0) to C(n,n).
 fn binomials(n: u32) -> [u64; PLACES]
-    requires fact_1 { n ≤ exact_assets }
-    requires fact_2 { n ≤ working_assets }
+    requires exact { n ≤ exact_assets }
+    requires working { n ≤ working_assets }
     ensures { Entries working_places (suc n) result (choose n) }
 {
     let mut row = [1u64; PLACES];
@@ -33,8 +35,8 @@ fn binomials(n: u32) -> [u64; PLACES]
 
 // C(n,0) to C(n,n), each rounded.
 fn rounded_counts(n: u32, side: Side) -> [Kept; PLACES]
-    requires fact_1 { n ≤ exact_assets }
-    requires fact_2 { n ≤ working_assets }
+    requires exact { n ≤ exact_assets }
+    requires working { n ≤ working_assets }
     ensures { Entries working_places (suc n) result (kept_count side n) }
 {
     let exact = binomials(n);

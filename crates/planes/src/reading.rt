@@ -11,8 +11,8 @@ use working::put_number;
 
 fn byte_at(place: usize, file: &[u8]) -> u32
     requires { place < length file.now }
-    ensures fact_1 { result ≡ get_or file.now place 0 }
-    ensures fact_2 { result < 256 }
+    ensures byte { result ≡ get_or file.now place 0 }
+    ensures fits { result < 256 }
 {
     file[place] as u32
 }
@@ -31,8 +31,8 @@ pub fn word_at(count: usize, at: usize, i: usize, file: &[u8]) -> u32
 
 // Kept number i of a side of so many that starts at a place.
 fn number_in(count: usize, at: usize, i: usize, file: &[u8]) -> Kept
-    requires fact_1 { HasSide count at file.now }
-    requires fact_2 { i < count }
+    requires side { HasSide count at file.now }
+    requires within { i < count }
     ensures { result ≡ number_in count (drop at file.now) i }
 {
     let exponents = at + 4 * count;
@@ -64,8 +64,8 @@ pub fn read_side(
     significands: &mut [u32],
     exponents: &mut [i32],
 )
-    requires fact_1 { HasSide count at file.now }
-    requires fact_2 { HasPlaces count (side_store significands.old exponents.old) }
+    requires side { HasSide count at file.now }
+    requires places { HasPlaces count (side_store significands.old exponents.old) }
     ensures { side_store significands.new exponents.new
         ≡ side_after count (number_in count (drop at file.now)) (side_store significands.old exponents.old) }
 {

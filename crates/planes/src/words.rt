@@ -27,7 +27,7 @@ pub(crate) fn signed_of(word: u32) -> i32
 }
 
 // The part of a kept number that an array holds.
-#[derive(Drop)]
+#[derive(Clone, Copy)]
 pub enum Part {
     Significand,
     Exponent,
@@ -52,8 +52,8 @@ pub(crate) fn byte_of(k: u32, word: u32) -> u8
 
 // Whether a significand and an exponent are a kept number.
 pub(crate) fn is_kept(x: Kept) -> bool
-    ensures fact_1 { result ≡ is_kept x }
-    ensures fact_2 { FitsTypes x }
+    ensures test { result ≡ is_kept x }
+    ensures fits { FitsTypes x }
 {
     (x.significand >= 0x8000_0000) | ((x.significand == 0) & (x.exponent == 0))
 }

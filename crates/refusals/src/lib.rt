@@ -1,5 +1,7 @@
 // The refusal of each call: the grounds that it checks, in their order. Each function gives the number of the first that applies,
 // or 0 where none does.
+#![tactic(auto)]
+
 ghost use Rattle.std.specs.Prelude.{◌≡◌, [], ◌∷◌};
 ghost use Rattle.grounds.specs.Grounds.{first_ground, four_lengths, assets_ground, screen_ground};
 ghost use Rattle.grounds.specs.Grounds.{fill_grounds, row_grounds, entries_grounds, column_grounds, shift_grounds, loss_grounds, layer_grounds, desk_grounds};
@@ -161,28 +163,4 @@ pub fn beta_loss_refusal(
     let of_beta_pool = beta_pool_refusal(most, n, p, rho);
     let of_tranches = tranches_refusal(tranches, count);
     first(of_beta_pool, of_tranches)
-}
-
-// 1 to 3 on the pool, 4 and 5, then 19 of the target, and 6, which is that of a tranche from 0: what is checked before an attachment is
-// looked for.
-pub fn attachment_refusal(
-    most: u32,
-    n: u32,
-    p: u32,
-    rho: u32,
-    recovery: u32,
-    upper: u32,
-    target: u32,
-) -> u32
-    ensures { result ≡ first_ground (attachmentGrounds most n p rho recovery upper target) }
-{
-    let of_pool = pool_refusal(most, n, p, rho);
-    let of_recovery = ground(4, recovery > WHOLE);
-    let of_upper = ground(5, upper > WHOLE);
-    let of_target = ground(19, target > WHOLE);
-    let of_width = ground(6, upper == 0);
-    first(
-        of_pool,
-        first(of_recovery, first(of_upper, first(of_target, of_width))),
-    )
 }

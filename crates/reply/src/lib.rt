@@ -1,4 +1,6 @@
 // The answer of the program `column` to its input, whole.
+#![tactic(auto)]
+
 ghost use Rattle.reply.specs.Reply.{Carries, AnswersPool, AnswersInput, AnswersStart};
 
 use pool::Pool;
@@ -18,7 +20,7 @@ const TEXT: usize = 20 + ROWS * 17;
 pub const START: usize = 64;
 
 // A text of the first `length` bytes.
-#[derive(Drop)]
+#[derive(Clone, Copy)]
 pub struct Reply {
     pub text: [u8; TEXT],
     pub length: usize,

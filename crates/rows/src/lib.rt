@@ -1,4 +1,6 @@
 // The rows of a pool, for one side: steps 1 to 3.
+#![tactic(auto)]
+
 ghost use Rattle.std.specs.Prelude.{◌≡◌, suc, ◌≤◌};
 ghost use Rattle.model.specs.Fraction.{whole};
 ghost use Rattle.steps.specs.CorrelatedBinomial.Rows.{kept_weight, kept_row};
@@ -13,7 +15,7 @@ use model::WHOLE;
 use working::{PLACES, number_at, put_number, read_row};
 
 // ρ and q = 1 − ρ, and the numbers p_(k+1) and m_(k+1) of step 2.
-#[derive(Drop)]
+#[derive(Clone, Copy)]
 struct Recurrence {
     correlation: Kept,
     q: Kept,

@@ -1,6 +1,8 @@
 // A quote screen for small pools: column and tranche losses as the library gives them, for at most 20 assets. Any numbers and slices of
 // any length may be given. A call answers, or refuses by the number of the first ground that applies and leaves every slice
 // untouched.
+#![tactic(auto)]
+
 ghost use Rattle.store.specs.Stores.{store};
 ghost use Rattle.expected_losses.specs.Loss.{losses_in};
 ghost use Rattle.screen.specs.Calls.{ScreenPrints, ScreenReplies};

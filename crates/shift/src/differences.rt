@@ -11,8 +11,8 @@ use working::PLACES;
 
 // a − b, of two numbers of units.
 fn difference(a: u32, b: u32) -> i32
-    requires fact_1 { a ≤ units_of_certainty }
-    requires fact_2 { b ≤ units_of_certainty }
+    requires a { a ≤ units_of_certainty }
+    requires b { b ≤ units_of_certainty }
     ensures { result ≡ pos a -ℤ pos b }
 {
     a as i32 - b as i32
@@ -20,9 +20,9 @@ fn difference(a: u32, b: u32) -> i32
 
 // For k from 0 to n the first printed tail at k less the second, into the start of the slice.
 fn write_differences(n: u32, printed: [u32; TAILS], base: [u32; TAILS], shifts: &mut [i32])
-    requires fact_1 { InUnits n printed }
-    requires fact_2 { InUnits n base }
-    requires fact_3 { n < length shifts.old }
+    requires units { InUnits n printed }
+    requires base_units { InUnits n base }
+    requires places { n < length shifts.old }
     ensures { shifts.new ≡ entries_after n (shift_at printed base) 0 shifts.old }
 {
     let places = n as usize + 1;
@@ -34,9 +34,9 @@ fn write_differences(n: u32, printed: [u32; TAILS], base: [u32; TAILS], shifts: 
 
 // The shift list of a row n of the low side against another, into the start of the slice.
 pub fn print_shifts(n: u32, row: [Kept; PLACES], base: [Kept; PLACES], shifts: &mut [i32])
-    requires fact_1 { ColumnReady n row }
-    requires fact_2 { ColumnReady n base }
-    requires fact_3 { n < length shifts.old }
+    requires ready { ColumnReady n row }
+    requires base_ready { ColumnReady n base }
+    requires places { n < length shifts.old }
     ensures { ShiftsPrinted n row base shifts.old shifts.new }
 {
     let printed = print_tails(n, row);

@@ -1,5 +1,7 @@
 // Where correlation moves the chances of a pool of at most 64 assets: the shift list. Any numbers and slices of any length may be
 // given. The call answers, or refuses by the number of the first ground that applies and leaves every slice untouched.
+#![tactic(auto)]
+
 mod differences;
 
 ghost use Rattle.store.specs.Stores.{store};

@@ -25,7 +25,7 @@ use Rattle.steps.specs.CorrelatedBinomial.{kept_defaults}
 use Rattle.steps.specs.Loss.{untouched, faint, shown, kept_least_shown, raised_to_shown, loss_answer}
 use Rattle.steps.specs.declared.Verdict.{Verdict}
 use Rattle.steps.specs.declared.Verdict.TheVariants.{Refused, Passed, Fails}
-use Rattle.steps.specs.Claims.{passes, refusal_in, verdict_on, verdict_after}
+use Rattle.steps.specs.Claims.{passes, first_to_fail, refusal_in, verdict_on, verdict_after}
 pub mod Rules
 
 -- s × 2^−(n+1)
@@ -136,7 +136,7 @@ pub cases :
     -- A refusal has its number.
     × (verdict_after 3 (λ side. kept_defaults side 3 500 500) [] 8 ≡ Refused 8)
     × (refusal_in (Refused 8) ≡ 8)
-unfolding scaled nought unity increment carry round rounded_product rounded_sum rounded_quotient of_integer of_basis_points size choose raise integer plus times divided whole complement over pascal_row pass passed loss_above loss_units constant kept_conditional kept_joint kept_power kept_weight kept_pass_step kept_row kept_total up_to exact_assets summed_count kept_count kept_chance kept_chances kept_tail kept_term kept_loss kept_layer units_of_certainty exact_units half whole_of to_nearest in_units printed_tail printed_row tail_shift kept_defaults least_shown below_shown kept_least_shown raised_to_shown loss_answer minus at_most passes first_from refusal_in verdict_on verdict_after
+unfolding scaled nought unity increment carry round rounded_product rounded_sum rounded_quotient of_integer of_basis_points size choose raise integer plus times divided whole complement over pascal_row pass passed loss_above loss_units constant kept_conditional kept_joint kept_power kept_weight kept_pass_step kept_row kept_total up_to exact_assets summed_count kept_count kept_chance kept_chances kept_tail kept_term kept_loss kept_layer units_of_certainty exact_units half whole_of to_nearest in_units printed_tail printed_row tail_shift kept_defaults least_shown below_shown kept_least_shown raised_to_shown loss_answer minus at_most passes first_to_fail refusal_in verdict_on verdict_after
 cases = (
   (refl, refl),
   (refl, refl),

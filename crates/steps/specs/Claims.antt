@@ -1,13 +1,12 @@
 -- A claimed column, in units, held against the bounds of the chances: which row passes, what a check answers, and what its answer means. c are the kept chances of both
 -- sides, of any row of chances.
 -- Assumes nothing.
-use Rattle.std.specs.Prelude.{ℕ, zero, suc, ◌≤◌, ◌<◌, ◌≡◌, Bool, not, ◌&&◌, List, get_or}
+use Rattle.std.specs.Prelude.{ℕ, zero, suc, ◌≤◌, ◌<◌, ◌≡◌, Bool, cond, ◌&&◌, List, get_or}
 use Rattle.model.specs.Fraction.{Fraction, AtMost, at_most, integer, plus}
 use Rattle.kept.specs.declared.Kept.{Kept}
 use Rattle.kept.specs.declared.Side.{Side}
 use Rattle.kept.specs.declared.Side.TheVariants.{Low, High}
 use Rattle.kept.specs.Rounding.{value}
-use Rattle.steps.specs.First.{first_from}
 use Rattle.steps.specs.Column.{exact_units, half, AtMostApart}
 use Rattle.steps.specs.declared.Verdict.{Verdict}
 use Rattle.steps.specs.declared.Verdict.TheVariants.{Refused, Passed, Fails}
@@ -28,6 +27,11 @@ passes low high claim = at_most (exact_units (value low)) (plus (integer claim) 
 
 -- ---- the answer
 
+-- The first of so many rows from k on that fails a test.
+unfoldable pub first_to_fail : (test : ℕ → Bool) (rows k : ℕ) → Verdict
+first_to_fail test zero k = Passed
+first_to_fail test (suc rows) k = cond (test k) (first_to_fail test rows (suc k)) (Fails k)
+
 -- The number of a refusal, or 0.
 unfoldable pub refusal_in : Verdict → ℕ
 refusal_in (Refused number) = number
@@ -39,16 +43,13 @@ module _ (c : Side → ℕ → Kept) (claims : List ℕ) where
   abbrev pub row_passes : ℕ → Bool
   row_passes k = passes (c Low k) (c High k) (get_or claims k 0)
 
-  abbrev pub row_fails : ℕ → Bool
-  row_fails k = not (row_passes k)
-
   abbrev pub RowPasses : ℕ → Type 0
   RowPasses k = Passes (c Low k) (c High k) (get_or claims k 0)
 
 module _ (n : ℕ) (c : Side → ℕ → Kept) (claims : List ℕ) where
   -- Rows 0 to n of the claim: the first that fails.
   unfoldable pub verdict_on : Verdict
-  verdict_on = first_from (row_fails c claims) Fails Passed (suc n) 0
+  verdict_on = first_to_fail (row_passes c claims) (suc n) 0
 
   -- What a call answers, by the number of its refusal.
   unfoldable pub verdict_after : (refusal : ℕ) → Verdict

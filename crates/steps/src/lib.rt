@@ -1,7 +1,8 @@
 // The steps that make the bounds of a pool's chances, tails and losses. It has definitions and laws, in specs/, and no function.
+#![tactic(auto)]
 
 // A tranche: what is recovered of a default, and the attachments, in basis points of the pool.
-#[derive(Drop)]
+#[derive(Clone, Copy)]
 pub struct Tranche {
     pub recovery: u32,
     pub lower: u32,
@@ -9,7 +10,7 @@ pub struct Tranche {
 }
 
 // What a check of a claimed column answers: the number of a refusal; that every row passes; or the first row that fails.
-#[derive(Drop)]
+#[derive(Clone, Copy)]
 pub enum Verdict {
     Refused(u32),
     Passed,

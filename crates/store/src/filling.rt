@@ -12,7 +12,7 @@ use steps::LARGEST_POOL;
 use working::PLACES;
 
 // Row n of either side.
-#[derive(Drop)]
+#[derive(Clone, Copy)]
 pub struct LastRows {
     pub low: [Kept; PLACES],
     pub high: [Kept; PLACES],
@@ -55,7 +55,7 @@ pub fn fill_both(
 
 // What a call that fills a store hands back: the number of a refusal, or 0, and the head of the store, which is the pool or, on a
 // refusal, the head that came.
-#[derive(Drop)]
+#[derive(Clone, Copy)]
 pub struct Filled {
     pub refusal: u32,
     pub head: Pool,

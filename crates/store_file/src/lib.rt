@@ -3,6 +3,8 @@
 //
 // A file is the head, three numbers of four bytes, and then for the low side and for the high side the significands and the
 // exponents of rows 0 to n, each of the four arrays in planes. Every number is little-endian.
+#![tactic(auto)]
+
 ghost use Rattle.std.specs.Prelude.{◌+◌, ◌*◌, ◌≤◌, ◌≡◌, length};
 ghost use Rattle.working.specs.Slices.{side_store, number_at};
 ghost use Rattle.planes.specs.Planes.{laid};

@@ -4,14 +4,14 @@ ghost use Rattle.text.specs.Line.{ReadsLine};
 ghost use Rattle.text.specs.Line.Fields.{ReadsField};
 
 // n, p and ρ, if the input is a line.
-#[derive(Drop)]
+#[derive(Clone, Copy)]
 pub enum Line {
     Refused,
     Inputs(u32, u32, u32),
 }
 
 // A number and the place after the byte that ends it, if a field begins at the place.
-#[derive(Drop)]
+#[derive(Clone, Copy)]
 enum Field {
     Missing,
     Number(u32, usize),

@@ -74,8 +74,8 @@ pub fn write_table(n: u32, units: &[u32], text: &mut [u8]) -> usize
 
 // The line of a refusal with a number.
 pub fn write_refused(number: u32, text: &mut [u8]) -> usize
-    requires fact_1 { number ≤ 99 }
-    requires fact_2 { 11 ≤ length text.old }
+    requires few { number ≤ 99 }
+    requires places { 11 ≤ length text.old }
     ensures { Writes (refused_text number) text.old text.new result }
 {
     let next = put_bytes(text, 0, b"refused ");

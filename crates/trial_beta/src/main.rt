@@ -1,5 +1,7 @@
 // Runs the calls of the beta-binomial at the edges of what they accept, beside those of Moody's model where the two have the same
 // chances, and on random pools, a line for each case. tools/trial_beta.py works the same lines out in exact whole numbers.
+#![tactic(auto)]
+
 ghost use Rattle.std.specs.Prelude.{◌≤◌};
 
 use pool::Pool;

@@ -2,6 +2,8 @@
 // byte behind it: how many cases there are, and for each the pool whose store the slices hold (of no assets where they hold marks),
 // the pool, the lengths of the four slices, how many claims there are, and the claims. tools/trial_checks.py writes them, and works
 // the same lines out in exact whole numbers.
+#![tactic(auto)]
+
 use trial_inputs::given::{read_claims, read_length, read_lengths, read_pool};
 use trial_lines::LARGE_ROWS;
 use trial_pool::run_check;

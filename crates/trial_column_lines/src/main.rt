@@ -1,5 +1,7 @@
 // Prints the answers to good and bad inputs, each below a line with the number of its case. tools/trial_column_lines.py works the
 // same lines out in exact fractions.
+#![tactic(auto)]
+
 use reply::START;
 use trial_support::{write, write_number};
 

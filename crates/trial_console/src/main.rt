@@ -1,4 +1,6 @@
 // Answers files of 0 to 64 bytes, one of each length, whose names are their lengths. Those of 6 to 18 bytes are a line.
+#![tactic(auto)]
+
 fn answer(tens: u8, ones: u8) {
     console::answer_from(os::open_read(&[tens, ones]));
 }

@@ -1,5 +1,7 @@
 // Runs the calls that fill a store and the desk's read on one store, by the steps of standard input: how many there are, and each as
 // crates/trial_stores takes it. tools/trial_desks.py writes the steps and what they must print.
+#![tactic(auto)]
+
 use trial_lines::{LARGE_PLACES, pool_of};
 use trial_stores::run_step;
 use trial_support::read_number;

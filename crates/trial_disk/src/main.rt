@@ -1,5 +1,7 @@
 // Runs the program `disk` on lines and paths, and shows what it leaves in the file. Then compares a store with files that
 // tools/trial_disk.py made. Each case stands below a line that names it.
+#![tactic(auto)]
+
 use libc::STDOUT_FILENO;
 use store::Pool;
 use trial_support::{next, write, write_number};

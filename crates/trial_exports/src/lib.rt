@@ -1,5 +1,7 @@
 // The calls under C names, for the programs of tools/random_calls. Numbers pass as themselves, a slice as a pointer and a length, an
 // array, and a number that is written, by a pointer.
+#![tactic(auto)]
+
 use column_check::Verdict;
 use desk::Request;
 use kept::Kept;
@@ -15,7 +17,7 @@ const ROWS: usize = 101;
 const HEAD: usize = 3;
 
 // A loss of an answer: a kind, 0 untouched, 1 faint, 2 shown, and up to two numbers. Where there is none, it is 0.
-#[derive(Drop)]
+#[derive(Clone, Copy)]
 struct Numbers {
     kind: u32,
     first: f64,

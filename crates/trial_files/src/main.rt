@@ -11,6 +11,8 @@
 // 9: puts a data file in the buffer; the same.
 //
 // tools/trial_files.py writes the steps and the data files, and works the same lines out in exact whole numbers.
+#![tactic(auto)]
+
 mod buffer;
 mod calls;
 mod data;

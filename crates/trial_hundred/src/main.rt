@@ -2,6 +2,8 @@
 // them, the refusals and their order, lengths of the slices, the rows of a store for 100 assets, stores over one another, last
 // digits that depend on how the counts of orders are rounded, losses around 2^−800, and random pools, a line for each case.
 // tools/trial_hundred.py works the same lines out in exact whole numbers.
+#![tactic(auto)]
+
 ghost use Rattle.std.specs.Prelude.{◌≤◌};
 
 use pool::Pool;

@@ -83,7 +83,7 @@ pub fn rows_of(n: u32, exact: usize, short: usize)
 // ---- a list
 
 // A call that leaves a list of entries 0 to n in a slice.
-#[derive(Drop)]
+#[derive(Clone, Copy)]
 pub enum List {
     Column(Library),
     Shifts,

@@ -8,7 +8,7 @@ use trial_support::next;
 // Which calls are run: fill, column and loss; the shift list; column and loss of pools of 1 to 20 assets, by the library and on the
 // screen; column and loss of the beta-binomial; the losses of several tranches by each library; column and losses by both
 // models, of pools of 65 to 100 assets; a layer of a pool and of one of 65 to 100 assets.
-#[derive(Drop)]
+#[derive(Clone, Copy)]
 pub enum Calls {
     Library,
     Shifts,

@@ -1,5 +1,7 @@
 // Runs the methods of kept numbers on edge values and on random ones, and prints a line for each case: the method, what it
 // was given, then the result on the low side and on the high side. tools/trial_kept.py works the same lines out exactly.
+#![tactic(auto)]
+
 ghost use Rattle.std.specs.Prelude.{◌<◌, ◌^◌};
 ghost use Rattle.kept.specs.Rounding.{Operand};
 
@@ -315,7 +317,7 @@ fn random_ratio(first: u64, second: u64) {
     ratio(n, odd as u64 * 0x2000);
 }
 
-#[derive(Drop)]
+#[derive(Clone, Copy)]
 enum Family {
     Integers,
     BasisPoints,

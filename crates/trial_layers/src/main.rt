@@ -1,6 +1,8 @@
 // Runs the layer call: layers of one default, from the first, to the last and of all, beside the tranches that have the same
 // attachments, losses around 2^−800, the edges and the order of the grounds, lengths of the store, stores of other pools, and random
 // layers, a line for each case. tools/trial_layers.py works the same lines out in exact whole numbers.
+#![tactic(auto)]
+
 ghost use Rattle.std.specs.Prelude.{◌≤◌};
 
 use pool::Pool;

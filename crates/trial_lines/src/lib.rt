@@ -1,4 +1,6 @@
 // What a line of output says of a call: what it was given, the refusal or the answer, and a checksum of each array.
+#![tactic(auto)]
+
 pub mod tranches;
 
 use column_check::Verdict;
@@ -17,11 +19,11 @@ pub const ROWS: usize = 70;
 pub const LARGE_ROWS: usize = 106;
 
 // How many places are lent: of the low and the high significands, then of the low and the high exponents.
-#[derive(Drop)]
+#[derive(Clone, Copy)]
 pub struct Lengths(pub usize, pub usize, pub usize, pub usize);
 
 // The libraries that have a column and a loss call. Those of the beta-binomial are lent no store.
-#[derive(Drop)]
+#[derive(Clone, Copy)]
 pub enum Library {
     Pool,
     Screen,
@@ -30,7 +32,7 @@ pub enum Library {
 
 // A call, with what it takes beside the pool and the store: the number of a row, how many places of a column or of a shift list
 // are lent, one tranche, several tranches, the first and the last default of a layer. The claims of a check are passed beside it.
-#[derive(Drop)]
+#[derive(Clone, Copy)]
 pub enum Call {
     Fill,
     Row(u32),

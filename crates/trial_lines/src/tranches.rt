@@ -4,7 +4,7 @@ use pool::{Answer, LayerAnswer, Loss, TRANCHES, Tranche};
 use trial_support::{write, write_bits, write_field};
 
 // The record at each place of a loss call, in fields, since the borrow checker does not cover an enum that holds an array.
-#[derive(Drop)]
+#[derive(Clone, Copy)]
 pub struct Records(
     pub Tranche,
     pub Tranche,
@@ -16,7 +16,7 @@ pub struct Records(
     pub Tranche,
 );
 
-#[derive(Drop)]
+#[derive(Clone, Copy)]
 pub struct Tranches {
     pub count: u32,
     pub records: Records,

@@ -1,6 +1,8 @@
 // Tables 1, 2 and 4 of "Moody's Correlated Binomial Default Distribution" (2004): for each chance of the first two and each expected
 // loss of the last, the low and the high bound, rounded to as many places as are printed there. Both have to be the printed figure,
 // from which tools/trial_moody_tables.py makes the expected lines.
+#![tactic(auto)]
+
 ghost use Rattle.std.specs.Prelude.{◌≤◌, ◌<◌};
 
 use kept::{Kept, Side};
@@ -58,9 +60,9 @@ fn write_kept(x: Kept, digits: u32) {
 
 // The chances of 0 to n defaults on one side, at a default probability of 5 per cent.
 fn chances_of(n: u32, correlation: u32, side: Side) -> [Kept; PLACES]
-    requires fact_1 { 0 < n }
-    requires fact_2 { n ≤ 36 }
-    requires fact_3 { correlation ≤ 10000 }
+    requires not_empty { 0 < n }
+    requires assets { n ≤ 36 }
+    requires correlation { correlation ≤ 10000 }
 {
     let row = rows::last_row(n, 500, correlation, side);
     chances::chances(n, row, side)

@@ -1,5 +1,7 @@
 // Runs a call on lent slices and prints its line. The slices are the first places of the arrays, so that a write behind them is
 // seen.
+#![tactic(auto)]
+
 use column_check::Verdict;
 use pool::{Answer, Filled, FilledLosses, Pool, TRANCHES, Tranche};
 use trial_lines::tranches::{Tranches, array_of, one, write_answer, write_layer};
@@ -38,7 +40,7 @@ pub fn first_integers(places: &mut [i32], count: usize) -> &mut [i32] {
 }
 
 // The pool that a call is given, and the head of the store that it is lent.
-#[derive(Drop)]
+#[derive(Clone, Copy)]
 pub struct Given {
     pub pool: Pool,
     pub head: Pool,

@@ -1,5 +1,7 @@
 // Runs each call at the edges of what it accepts, and where a last digit decides, a line for each case. tools/trial_pool_cases.py
 // works the same lines out in exact whole numbers.
+#![tactic(auto)]
+
 ghost use Rattle.std.specs.Prelude.{◌≤◌};
 
 use pool::Pool;

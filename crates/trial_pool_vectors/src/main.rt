@@ -1,5 +1,7 @@
 // Runs the fill, the column and the tranche loss on random pools, a line for each. tools/trial_pool_vectors.py works the same lines
 // out in exact whole numbers.
+#![tactic(auto)]
+
 use trial_inputs::random::{Calls, random_cases};
 
 fn main() {

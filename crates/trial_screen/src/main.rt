@@ -1,5 +1,7 @@
 // Runs the calls of the quote screen around its ceiling, at the edges of what they accept, and on random pools of up to 20 assets
 // beside the library's calls, a line for each case. tools/trial_screen.py works the same lines out in exact whole numbers.
+#![tactic(auto)]
+
 use pool::Pool;
 use trial_inputs::edges::{
     List, exact_lengths, later_ends, list_lengths, lists, longer_lengths, over_others,

@@ -1,5 +1,7 @@
 // Runs the shift list at the edges of what it accepts, with probability and correlation at and next to their ends, and on random
 // pools, a line for each case. tools/trial_shift.py works the same lines out in exact whole numbers.
+#![tactic(auto)]
+
 use trial_inputs::edges::{List, list_corners, lists};
 use trial_inputs::random::{Calls, random_cases};
 use trial_lines::{Call, LARGE_ROWS, pool_of};

@@ -8,6 +8,8 @@
 //
 // A head is 0 for the one that was handed back last, or 1 and three numbers. tools/trial_stores.py writes the steps, and works the
 // same lines out in exact whole numbers.
+#![tactic(auto)]
+
 mod filling;
 mod marks;
 mod reading;

@@ -3,7 +3,7 @@ use trial_lines::LARGE_PLACES;
 use trial_support::next;
 
 // Which words: a seed, and the places from one to before another that stay as they are.
-#[derive(Drop)]
+#[derive(Clone, Copy)]
 pub struct Marks {
     pub seed: u32,
     pub from: usize,

@@ -42,7 +42,7 @@ fn read_request() -> Request {
 }
 
 // The kept numbers of a side, in two arrays.
-#[derive(Drop)]
+#[derive(Clone, Copy)]
 struct Parts {
     significands: [u32; PLACES],
     exponents: [i32; PLACES],

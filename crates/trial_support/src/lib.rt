@@ -1,4 +1,6 @@
 // What the test programs share: printing, reading numbers, random words, checksums, kept numbers from their parts.
+#![tactic(auto)]
+
 ghost use Rattle.std.specs.Prelude.{◌≡◌, nat_abs};
 ghost use Rattle.kept.specs.Rounding.{Operand};
 

@@ -2,6 +2,8 @@
 // recovery, and prints a line for each. The input is numbers, each with one byte behind it: how many cases there are, and for each
 // the library, the pool, how many tranches there are, and the tranches. tools/trial_touching.py writes them, works the same lines
 // out in exact whole numbers, and checks the sums of the losses that are printed.
+#![tactic(auto)]
+
 use trial_inputs::given::{read_library, read_pool, read_tranches};
 use trial_lines::Call;
 use trial_pool::run_ample;

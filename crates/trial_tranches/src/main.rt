@@ -1,6 +1,8 @@
 // Runs the loss call of each library on up to eight tranches: counts, each ground of a tranche at each place, two grounds at once,
 // the order of all grounds, pools, orders of the tranches, records past the count, lengths of the store, and random tranches, a line
 // for each case. tools/trial_tranches.py works the same lines out in exact whole numbers.
+#![tactic(auto)]
+
 ghost use Rattle.std.specs.Prelude.{◌≤◌};
 
 use pool::{Pool, TRANCHES, Tranche};

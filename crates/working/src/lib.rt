@@ -1,4 +1,6 @@
 // The working row, and kept numbers in two slices.
+#![tactic(auto)]
+
 ghost use Rattle.std.specs.Prelude.{◌≡◌, suc, ◌+◌, replicate};
 ghost use Rattle.kept.specs.Rounding.{nought};
 ghost use Rattle.working.specs.Working.{working_places, Changed};

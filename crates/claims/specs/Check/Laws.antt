@@ -49,8 +49,8 @@ module _ {n : ℕ} {low high : List Kept} {claims : List ℕ} where
           let rest : suc n - (k + 1) ≡ n - k = omega arith in
           record { ready = done.ready; within = omega arith; left = λ c on. row_left c on true passed ∙ rw (rest, add-one k) refl }
 
-      pub row_fails_lem : passes (get_or low k d) (get_or high k d) (get_or claims k 0) ≡ false → RowsChecked n low high claims (Fails k)
-      row_fails_lem failed = record { verdict_is = λ c on. sym (row_left c on false failed) }
+      pub row_fails : passes (get_or low k d) (get_or high k d) (get_or claims k 0) ≡ false → RowsChecked n low high claims (Fails k)
+      row_fails failed = record { verdict_is = λ c on. sym (row_left c on false failed) }
 
     pub rows_all : k ≡ suc n → RowsChecked n low high claims Passed
     unfolding first_to_fail

@@ -156,6 +156,8 @@ bits_of {s} n j k (fin false m e) h v =
     let dropped : suc (j + 52) - 53 ≡ j = omega arith in
     let kept : w / 2 ^ j ≡ s * 2 ^ 21 = ap (λ z. z / 2 ^ j) (rw (h, pow-add 2 j 21) (omega arith)) ∙ shl-shr (s * 2 ^ 21) j in
     rw (whole, digits, dropped, kept, zero-add)
+bits_of n j k nan h v = elim v [ ]
+bits_of n j k (inf _) h v = elim v [ ]
 
 -- The value of x as a multiple of the least value of binary64, where c is 243.
 shown_power : (s : ℕ) {e : ℤ} {n : ℕ} (c : ℕ) → Doublings e n → s * up e * 2 ^ (831 + c) ≡ s * 2 ^ (n + c) * down e

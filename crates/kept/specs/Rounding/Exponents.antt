@@ -49,7 +49,7 @@ reach_back less r = to_z-of_z (reach_fits less r)
 
 -- So is the result of a call.
 pub result_back : (e : ℤ) → mag e < 2 ^ 31 → to_z w32 (of_z w32 e) ≡ e
-result_back e fits = to_z-of_z (record { sfits = fits })
+result_back e fits = to_z-of_z {w = w32} {z = e} (record { sfits = fits })
 
 -- ---- the difference of two words, as an i32
 

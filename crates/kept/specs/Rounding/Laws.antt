@@ -5,7 +5,7 @@ use Rattle.std.specs.Prelude.{◌≡◌, ◌⊎◌, ℤ, pos, ◌+ℤ◌, ◌-�
 use Rattle.std.proofs.Math.Path.{refl}
 use Rattle.std.proofs.Common.{sym, ap, ap₂, inl, inr, eq-zero-or-pos, zero-mul, mul-le-mul_left, mul-le-mul_right, mul-pos, le-div_iff_mul-le, arith, lit<, lit≤, pow-add, pow_pos, shl_lt}
 use Rattle.std.proofs.Math.Nat.{zero-div, zero-mod, pow-succ', div-div-eq-div-mul, eq_of_mul-eq-mul_right}
-use Rattle.std.proofs.Math.IntN.{-ℤ-+ℤ_cancel}
+use Rattle.std.proofs.Math.IntN.{ -ℤ-+ℤ_cancel}
 use Rattle.std.specs.Float.Ieee.{up, down, minus, size}
 use Rattle.std.specs.Float.Ieee.Fits.{up_pos, down_pos, kept-lt}
 use Rattle.std.specs.Float.Ieee.Digits.{minus_val, size-lt, size-le, size_reaches}

@@ -33,8 +33,8 @@ least_shown_part {target} some =
 -- A target that is not below a number above zero is not 0.
 part_above : {x : Fraction} {target : ℕ} → Less (integer 0) x → AtMost x (over target 1) → 1 ≤ target
 unfolding integer over whole
-part_above {x} {zero} above most = absurd (omega (arith, above.cross, most.cross))
-part_above {x} {suc target} above most = omega arith
+part_above {x = x} {target = zero} above most = absurd (omega (arith, above.cross, most.cross))
+part_above {x = x} {target = suc target} above most = omega arith
 
 module _ {low high : Kept} (kept : IsKept high) (order : AtMost (value low) (value high)) (most : AtMost (value high) (integer 2)) (target : ℕ) where
   high_of_met : MeetsTarget target (loss_answer low high) → AtMost (value high) (over target 1)

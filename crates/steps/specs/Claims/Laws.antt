@@ -2,12 +2,10 @@
 -- one that passes may be off.
 -- Assumes nothing.
 use Prim.Native.Nat.{ℕ, zero, suc, ◌+◌, ◌-◌, ◌*◌, ◌≤◌, ◌<◌}
-use Rattle.std.specs.Prelude.{◌≡◌, Bool, true, false, not, ◌&&◌, List, leb, get_or, take}
+use Rattle.std.specs.Prelude.{◌≡◌, Bool, true, false, cond, ◌&&◌, List, leb, get_or, take}
 use Rattle.std.proofs.Math.Path.{refl}
-use Rattle.std.proofs.Common.{sym, ap, ◌∙◌, mul-le-mul_left, mul-le-mul_right, le_of_mul-le-mul_right, lt_of_not-le, arith, get_or-take}
-use Rattle.std.proofs.Math.Bool.{true≢false}
+use Rattle.std.proofs.Common.{sym, ap, ◌∙◌, true≢false, zero-add, mul-le-mul_left, mul-le-mul_right, le_of_mul-le-mul_right, lt_of_not-le, arith, get_or-take}
 use Rattle.std.proofs.Math.Decide.{dec_le}
-use borrow.Author.Tests.{not-true, not-false}
 use Rattle.model.specs.Fraction.{Fraction, AtMost, at_most, certainty, integer, plus, minus, times}
 use Rattle.model.specs.Fraction.Laws.{at_most_true, true_at_most, at_most_by, at_most_of_same, at_most_of_less, at_most_refl, at_most_trans}
 use Rattle.model.specs.Fraction.Laws.{plus_mono, plus_more, plus_comm, minus_covers, minus_from, minus_to}
@@ -17,13 +15,12 @@ use Rattle.kept.specs.declared.Side.TheVariants.{Low, High}
 use Rattle.kept.specs.Rounding.{value}
 use Rattle.kept.specs.Whole.{whole_of}
 use Rattle.kept.specs.Whole.Laws.{whole_is, whole_at_most}
-use Rattle.steps.specs.First.Laws.{first_holds, first_same}
 use Rattle.steps.specs.Column.{units_of_certainty, exact_units, half, to_nearest, AtMostApart}
 use Rattle.steps.specs.Column.Laws.{units_order, nearest_more_than}
 use Rattle.steps.specs.Enclosure.{Enclosed}
 use Rattle.steps.specs.declared.Verdict.{Verdict}
 use Rattle.steps.specs.declared.Verdict.TheVariants.{Refused, Passed, Fails}
-use Rattle.steps.specs.Claims.{Passes, passes, refusal_in, row_passes, row_fails, RowPasses, verdict_on, verdict_after, Means}
+use Rattle.steps.specs.Claims.{Passes, passes, first_to_fail, refusal_in, row_passes, RowPasses, verdict_on, verdict_after, Means}
 
 -- ---- the test of a row
 
@@ -113,50 +110,96 @@ pub passes_halves : (low high : Kept) (claim : ℕ)
 unfolding passes
 passes_halves low high claim = rw (least_claimed low claim, most_claimed high claim) refl
 
+-- ---- the first row to fail
+
+-- What is first among the rows from one on, up to another.
+abbrev First : (test : ℕ → Bool) (start end : ℕ) → Verdict → Type 0
+First test start end (Refused number) = ⊥
+First test start end Passed = (i : ℕ) → start ≤ i → i < end → test i ≡ true
+First test start end (Fails k) = (k < end) × (test k ≡ false) × ((i : ℕ) → start ≤ i → i < k → test i ≡ true)
+
+module _ (test : ℕ → Bool) where
+  passed_one : (k : ℕ) → test k ≡ true → {end : ℕ} → ((i : ℕ) → suc k ≤ i → i < end → test i ≡ true) → (i : ℕ) → k ≤ i → i < end → test i ≡ true
+  passed_one k passed later i l m = elim (dec_le (suc k) i) [
+    | yes more ↦ later i more m
+    | no more ↦ let is : i ≡ k = omega arith in rw is passed
+  ]
+
+  first_earlier : (k end : ℕ) → test k ≡ true → (v : Verdict) → First test (suc k) end v → First test k end v
+  first_earlier k end passed (Refused number) first = first
+  first_earlier k end passed Passed first = passed_one k passed first
+  first_earlier k end passed (Fails j) first = (first.0, first.1, passed_one k passed first.2)
+
+  -- By whether row k passes, from what is first after it.
+  first_after : (rows k : ℕ) (v : Verdict) → First test (suc k) (suc k + rows) v → (t : Bool) → test k ≡ t → First test k (k + suc rows) (cond t v (Fails k))
+  first_after rows k v later true passed =
+      let one_more : suc k + rows ≡ k + suc rows = omega arith in
+      first_earlier k (k + suc rows) passed v (rw one_more at later)
+  first_after rows k v later false failed = (omega arith, failed, λ i l m. absurd (omega arith))
+
+  first_is : (rows k : ℕ) → First test k (k + rows) (first_to_fail test rows k)
+  unfolding first_to_fail
+  first_is zero k = λ i l m. absurd (omega arith)
+  first_is (suc rows) k = first_after rows k (first_to_fail test rows (suc k)) (first_is rows (suc k)) (test k) refl
+
+  -- Where every row passes, none fails.
+  none_fails : (end : ℕ) → ((i : ℕ) → i < end → test i ≡ true) → (v : Verdict) → First test 0 end v → v ≡ Passed
+  none_fails end every (Refused number) first = absurd first
+  none_fails end every Passed first = refl
+  none_fails end every (Fails k) first = absurd (true≢false (sym (every k first.0) ∙ first.1))
+
+-- Tests that agree on the rows have the same first.
+first_same : {test other : ℕ → Bool} (rows k : ℕ) → ((i : ℕ) → i < k + rows → test i ≡ other i) → first_to_fail test rows k ≡ first_to_fail other rows k
+unfolding first_to_fail
+first_same zero k agree = refl
+first_same (suc rows) k agree = rw (agree k (omega arith), first_same rows (suc k) (λ i l. agree i (omega arith))) refl
+
 -- ---- the answer
 
 module _ (n : ℕ) (c : Side → ℕ → Kept) (claims : List ℕ) where
+  first_on : First (row_passes c claims) 0 (suc n) (verdict_on n c claims)
+  unfolding verdict_on
+  first_on = rw (zero-add (suc n)) at (first_is (row_passes c claims) (suc n) 0)
+
   pub verdict_refused : (refusal : ℕ) → (refusal ≡ 0 → ⊥) → Refused refusal ≡ verdict_after n c claims refusal
   unfolding verdict_after
   verdict_refused zero some = absurd (some refl)
   verdict_refused (suc refusal) some = refl
 
+  no_refusal : (v : Verdict) → First (row_passes c claims) 0 (suc n) v → refusal_in v ≡ 0
+  unfolding refusal_in
+  no_refusal (Refused number) first = absurd first
+  no_refusal Passed first = refl
+  no_refusal (Fails k) first = refl
+
   -- The verdict on claimed rows is no refusal.
   pub verdict_number : refusal_in (verdict_on n c claims) ≡ 0
-  unfolding refusal_in verdict_on
-  verdict_number = first_holds (λ v. refusal_in v ≡ 0) (suc n) (λ k first. refl) (λ every. refl)
+  verdict_number = no_refusal (verdict_on n c claims) first_on
 
-  -- A row that does not fail passes.
   module _ (order : (k : ℕ) → k ≤ n → AtMost (value (c Low k)) (value (c High k))) where
-    passes_at : (k : ℕ) → k ≤ n → row_fails c claims k ≡ false → RowPasses c claims k
-    passes_at k l failed = test_passes (order k l) (not-false (row_passes c claims k) failed)
+    first_means : (v : Verdict) → First (row_passes c claims) 0 (suc n) v → Means n c claims 0 v
+    first_means (Refused number) first = absurd first
+    first_means Passed first = record { none = refl; every = λ k l. test_passes (order k l) (first k (omega arith) (omega arith)) }
+    first_means (Fails k) first = record {
+      none = refl;
+      within = omega (arith, first.0);
+      fails = λ passed. true≢false (sym (passes_test passed) ∙ first.1);
+      before = λ i l. test_passes (order i (omega (arith, first.0))) (first.2 i (omega arith) l);
+    }
 
     -- What the answer means where no ground refuses.
     pub verdict_means : Means n c claims 0 (verdict_on n c claims)
-    unfolding verdict_on
-    verdict_means =
-        first_holds (Means n c claims 0) (suc n)
-        (λ k first. record {
-          none = refl;
-          within = omega (arith, first.within);
-          fails = λ passed. true≢false (sym (passes_test passed) ∙ not-true (row_passes c claims k) first.passes);
-          before = λ i l. passes_at i (omega (arith, first.within)) (first.before.fails i l);
-        })
-        (λ every. record { none = refl; every = λ k l. passes_at k l (every.fails k (omega arith)) })
+    verdict_means = first_means (verdict_on n c claims) first_on
 
   -- A column each of whose rows passes.
   pub every_passes : ((k : ℕ) → k ≤ n → RowPasses c claims k) → verdict_on n c claims ≡ Passed
-  unfolding verdict_on
-  every_passes every =
-      first_holds (λ v. v ≡ Passed) (suc n)
-      (λ k first. absurd (true≢false (sym (passes_test (every k (omega (arith, first.within)))) ∙ not-true (row_passes c claims k) first.passes)))
-      (λ _. refl)
+  every_passes every = none_fails (row_passes c claims) (suc n) (λ i l. passes_test (every i (omega arith))) (verdict_on n c claims) first_on
 
 -- Rows behind the last play no part.
 pub verdict_alone : (n : ℕ) (c : Side → ℕ → Kept) (claims other : List ℕ) → take (suc n) claims ≡ take (suc n) other → (refusal : ℕ)
     → verdict_after n c claims refusal ≡ verdict_after n c other refusal
 unfolding verdict_after verdict_on
-verdict_alone n c claims other alike zero = first_same Fails Passed (suc n) 0 (λ i l. ap (λ (claim : ℕ). not (passes (c Low i) (c High i) claim)) (claimed i (omega arith)))
+verdict_alone n c claims other alike zero = first_same (suc n) 0 (λ i l. ap (passes (c Low i) (c High i)) (claimed i (omega arith)))
   where
     claimed : (i : ℕ) → i < suc n → get_or claims i 0 ≡ get_or other i 0
     claimed i l = sym (get_or-take (suc n) claims i 0 l) ∙ ap (λ (l : List ℕ). get_or l i 0) alike ∙ get_or-take (suc n) other i 0 l
