@@ -36,15 +36,15 @@ unfolding integer over whole
 part_above {x = x} {target = zero} above most = absurd (omega (arith, above.cross, most.cross))
 part_above {x = x} {target = suc target} above most = omega arith
 
-module _ {low high : Kept} (kept : IsKept high) (order : AtMost (value low) (value high)) (most : AtMost (value high) (integer 2)) (target : ℕ) where
+module _ (low : Kept) {high : Kept} (kept : IsKept high) (order : AtMost (value low) (value high)) (most : AtMost (value high) (integer 2)) (target : ℕ) where
   high_of_met : MeetsTarget target (loss_answer low high) → AtMost (value high) (over target 1)
-  high_of_met meets = elim (answer_high kept order most) [
+  high_of_met meets = elim (answer_high low kept order most) [
     | inl same ↦ at_most_trans (at_most_of_same (same_sym same)) meets
     | inr faint ↦ at_most_trans faint.below (at_most_trans (at_most_of_same (same_sym faint.number_is)) meets)
   ]
 
   met_by_high : AtMost (value high) (over target 1) → MeetsTarget target (loss_answer low high)
-  met_by_high within = elim (answer_high kept order most) [
+  met_by_high within = elim (answer_high low kept order most) [
     | inl same ↦ at_most_trans (at_most_of_same same) within
     | inr faint ↦ at_most_trans (at_most_of_same faint.number_is) (least_shown_part (part_above faint.above within))
   ]
@@ -78,7 +78,7 @@ module _ (n : ℕ) (c : Side → ℕ → Kept) (R B target : ℕ) where
   pub attachment_means : Means n c R B target 0 (attachment_on n c R B target)
   unfolding attachment_on
   attachment_means =
-      first_holds (Means n c R B target 0) B
+      first_holds _ _ _ (Means n c R B target 0) B
       (λ A first. record {
         none = refl;
         within = first.within;

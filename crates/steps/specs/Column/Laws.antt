@@ -170,7 +170,8 @@ module _ {b : ℕ} {r : Chances} {c : Side → ℕ → Kept} (bounded : Bounded 
   -- The printed tails do not grow.
   pub printed_falls : (k : ℕ) → printed_tail r.assets (c Low) (suc k) ≤ printed_tail r.assets (c Low) k
   unfolding printed_tail
-  printed_falls k = elim k [ zero ↦ low_at_most_one 1 | suc j ↦ low_falls (suc j) ]
+  printed_falls zero = low_at_most_one 1
+  printed_falls (suc j) = low_falls (suc j)
 
   -- The tails of low chances that are b away, to nearest: less than half a unit is lost by that, and 100,000 × budget / 2^31 units by the low tail.
   pub printed_tails : {below : Fraction} → (precision + 2 * (units_of_certainty * tail_budget r.assets b)) * below.den ≤ 2 * (below.num * precision)
@@ -178,8 +179,8 @@ module _ {b : ℕ} {r : Chances} {c : Side → ℕ → Kept} (bounded : Bounded 
   unfolding printed_tail
   printed_tails {below} slack = record {
     falls = printed_falls;
-    at_most = λ k. elim k [ zero ↦ at_most_trans at_zero (plus_more (exact_units (tail r 0)) half) | suc j ↦ low_at_most (suc j) ];
-    more_than = λ k. elim k [
+    at_most = λ k. elim k as (λ k. AtMost (integer (printed_tail r.assets (c Low) k)) (plus (exact_units (tail r k)) half)) [ zero ↦ at_most_trans at_zero (plus_more (exact_units (tail r 0)) half) | suc j ↦ low_at_most (suc j) ];
+    more_than = λ k. elim k as (λ k. Less (exact_units (tail r k)) (plus (integer (printed_tail r.assets (c Low) k)) below)) [
       | zero ↦ less_at_most_trans (more_than 0) (plus_mono as_certain at_most_refl)
       | suc j ↦ more_than (suc j)
     ];

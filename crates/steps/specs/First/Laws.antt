@@ -20,7 +20,7 @@ none_more k none failed = record {
 }
 
 -- What holds of all that is made of a first, and of `none` where there is none, holds of what is made.
-module _ {A : Type 0} {test : ℕ → Bool} {made : ℕ → A} {none : A} (P : A → Type 0) where
+module _ {A : Type 0} (test : ℕ → Bool) (made : ℕ → A) (none : A) (P : A → Type 0) where
   by_test : (k : ℕ) (rest : A) → (test k ≡ true → P (made k)) → (test k ≡ false → P rest) → (t : Bool) → test k ≡ t → P (cond t (made k) rest)
   by_test k rest here later true passed = here passed
   by_test k rest here later false failed = later failed

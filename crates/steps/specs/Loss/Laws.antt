@@ -148,10 +148,10 @@ pub record RaisedNumber (high : Kept) (number : Fraction) : Type 0 where
   pub number_is : Same number least_shown
 
 -- Otherwise the number that an answer carries on the high side is the high bound.
-pub answer_high : {low high : Kept} → IsKept high → AtMost (value low) (value high) → AtMost (value high) (integer 2)
+pub answer_high : (low : Kept) {high : Kept} → IsKept high → AtMost (value low) (value high) → AtMost (value high) (integer 2)
     → Same (carried High (loss_answer low high)) (value high) ⊎ RaisedNumber high (carried High (loss_answer low high))
 unfolding carried integer nought scaled
-answer_high {low} {high} kept order most = elim kept.form [
+answer_high low {high = high} kept order most = elim kept.form [
   | inl is ↦ inl (rw (answer_untouched low high is, is) (record { cross = refl }))
   | inr normal ↦
       let not : high ≡ nought → ⊥ = λ is. omega (arith, (rw is at normal).least) in

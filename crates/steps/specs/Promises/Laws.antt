@@ -160,7 +160,7 @@ module _ {b : ℕ} {r : Chances} {v : ℕ → Fraction} {entry : Side → ℕ �
         → HoldsAttachment g r (λ side. kept_chances side r.assets (entry side)) R B answer
     unfolding attachment_on
     attachment_holds R B target upper not_empty is =
-        rw is (first_holds (HoldsAttachment g r kept R B) B
+        rw is (first_holds _ _ _ (HoldsAttachment g r kept R B) B
         (λ A first.
         let wide = tranche_wide not_empty first.within in
         record { wide = wide; holds = tranche_holds (tranche_from R B A) upper wide refl })
