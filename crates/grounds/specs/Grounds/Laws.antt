@@ -97,10 +97,10 @@ both_hold false t h = absurd h
 none_applies : {r : ℕ} (gs : List Ground) → T (numbers_meet (ltb 0) gs) → r ≡ first_ground gs → r ≡ 0 → NoneApplies gs
 unfolding first_ground
 none_applies [] h is none = tt
-none_applies (g ∷ gs) h is none =
+none_applies {r = r} (g ∷ gs) h is none =
     let parts = neither_of (cond g.applies g.number 0) (first_ground gs) (sym is ∙ none) in
     let above = both_hold (ltb 0 g.number) (numbers_meet (ltb 0) gs) h in
-    (off g.applies (ltb→lt 0 g.number above.0) parts.0, none_applies gs above.1 refl parts.1)
+    (off g.applies (ltb→lt 0 g.number above.0) parts.0, none_applies {r = first_ground gs} gs above.1 refl parts.1)
   where
     off : {m : ℕ} (t : Bool) → 0 < m → cond t m 0 ≡ 0 → t ≡ false
     off true above e = absurd (omega arith)
