@@ -1,5 +1,5 @@
 -- `gap` meets its contract.
-use Rattle.std.proofs.Common.{◌≡◌, sym, ℤ, pos, ◌+ℤ◌, ◌-ℤ◌, ◌≤ℤ◌, lit<, w32, FitsSigned, to_z, of_z, to_z-of_z}
+use Rattle.std.proofs.Common.{◌≡◌, sym, ℤ, pos, ◌+ℤ◌, ◌-ℤ◌, ◌≤ℤ◌, lit<, w32, to_z, of_z, to_z-of_z}
 use Rattle.std.proofs.Math.IntN.{nat_abs, +ℤ_comm, -ℤ-+ℤ_cancel}
 use Rattle.std.specs.Int.Signed.{pos-nat_abs}
 use Rattle.kept.specs.Rounding.{Reach}

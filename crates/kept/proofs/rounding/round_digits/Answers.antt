@@ -1,10 +1,10 @@
 -- `round_digits` meets its contract.
-use Rattle.std.proofs.Common.{ℕ, ◌<◌, ◌≤◌, ◌^◌, ◌≡◌, ℤ, pos, ◌+ℤ◌, ◌-ℤ◌, w32, to_z, of_z, to_z-of_z, le_of_lt, lit<, lit≤, arith}
+use Rattle.std.proofs.Common.{ℕ, ◌<◌, ◌≤◌, ◌^◌, ◌≡◌, ℤ, pos, ◌+ℤ◌, ◌-ℤ◌, w32, to_z, of_z, le_of_lt, lit<, lit≤, arith}
 use Rattle.std.specs.Int.Signed.{mag}
 use Rattle.kept.specs.Rounding.{Reach}
 use Rattle.kept.specs.Rounding.Exponents.{reach_plus, reach_minus, reach_whole, reach_weaken, reach_back, result_back}
 use Rattle.kept.specs.Rounding.Leading.{increment_at_most_one}
-use Rattle.kept.specs.Rounding.Words.{shift_of, shifted, digits_rounded}
+use Rattle.kept.specs.Rounding.Words.{shifted, digits_rounded}
 use Rattle.kept.proofs.rounding.round_digits.Goals as goal
 
 -- The exponent of the upper 32 digits, before the shift.

@@ -1,6 +1,6 @@
 -- `shifted_up` meets its contract.
 use Rattle.std.proofs.Common.{mod-eq_of_lt}
-use Rattle.kept.specs.Rounding.Words.{Shifted, shifted}
+use Rattle.kept.specs.Rounding.Words.{shifted}
 use Rattle.kept.proofs.rounding.shifted_up.Goals as goal
 
 pub overflow_shl-result : goal.overflow_shl-result
