@@ -84,7 +84,10 @@ no_field reading at_end at_digit number rest begins =
 pub one_field : {end count value number number' : ℕ} {rest rest' : List ℕ} → end < code "0" → (text : List ℕ)
     → Completes end count value text number rest → Completes end count value text number' rest' → (number ≡ number') × (rest ≡ rest')
 one_field low [] a b = absurd (not_empty a)
-one_field low (byte ∷ text) a b = elim (first a) [
+one_field {count = count} {value = value} low (byte ∷ text) a b = elim (first a) [
   | ended same one is js ↦ elim (first b) [ ended same' one' is' js' ↦ (cc, cc) | digit is' few goes ↦ absurd (omega arith) ]
-  | digit is few goes ↦ elim (first b) [ ended same one' is' js' ↦ absurd (omega arith) | digit is' few' goes' ↦ one_field low text goes goes' ]
+  | digit is few goes ↦ elim (first b) [
+    | ended same one' is' js' ↦ absurd (omega arith)
+    | digit is' few' goes' ↦ one_field {count = count + 1} {value = value * 10 + (byte - code "0")} low text goes goes'
+  ]
 ]
