@@ -40,49 +40,49 @@ def main():
     made = [steps(side, 3, 1000, 3000) for side in (0, 1)]
     for k in range(1, 4):
         for j in range(k + 1):
-            digits(f"λ side. keptRow side 1000 3000 {k} {j}", lambda side: made[side][0][k][j])
+            digits(f"λ side. kept_row side 1000 3000 {k} {j}", lambda side: made[side][0][k][j])
     for j in range(4):
-        digits(f"λ side. keptDefaults side 3 1000 3000 {j}", lambda side: made[side][1][j])
+        digits(f"λ side. kept_defaults side 3 1000 3000 {j}", lambda side: made[side][1][j])
     for k in range(1, 4):
-        digits(f"tailOf 3 1000 3000 {k}", lambda side: tails(side, made[side][1])[k])
+        digits(f"tail_of 3 1000 3000 {k}", lambda side: tails(side, made[side][1])[k])
     for lower, upper in [(1000, 3000), (0, 7000)]:
-        digits(f"threeLoss {lower} {upper} (lit< tt)", lambda side: loss(side, made[side][1], 4000, lower, upper))
+        digits(f"three_loss {lower} {upper} (lit< tt)", lambda side: loss(side, made[side][1], 4000, lower, upper))
     for i in range(1, 4):
-        digits(f"layerOf 3 1000 3000 {i} 3", lambda side: layer(side, made[side][1], i, 3))
-    digits("layerOf 3 500 500 1 3", lambda side: layer(side, steps(side, 3, 500, 500)[1], 1, 3))
+        digits(f"layer_of 3 1000 3000 {i} 3", lambda side: layer(side, made[side][1], i, 3))
+    digits("layer_of 3 500 500 1 3", lambda side: layer(side, steps(side, 3, 500, 500)[1], 1, 3))
     for j in range(5):
-        digits(f"λ side. summedCount side 4 {j}", lambda side: summed_counts(side, 4)[j])
+        digits(f"λ side. summed_count side 4 {j}", lambda side: summed_counts(side, 4)[j])
     for side, name in enumerate(["Low", "High"]):
         total = sum((upper - lower) * value(loss(side, made[side][1], 4000, lower, upper)) for lower, upper in pairwise(CUT))
-        line(f"threeTotal {name} answered {total.numerator} {total.denominator.bit_length() - 2}")
+        line(f"three_total {name} answered {total.numerator} {total.denominator.bit_length() - 2}")
     rows, printed = printed_rows(made[0][1]), printed_tails(made[0][1])
     for k in range(4):
-        line(f"(rowOf 3 1000 3000 {k} ≡ {rows[k]})")
-        line(f"(printedOf 3 1000 3000 {k} ≡ {printed[k]})")
+        line(f"(row_of 3 1000 3000 {k} ≡ {rows[k]})")
+        line(f"(printed_of 3 1000 3000 {k} ≡ {printed[k]})")
     for k, shift in enumerate(shifts(made[0][1], steps(0, 3, 1000, 0)[1])):
-        line(f"(threeShift {k} ≡ {f'pos {shift}' if shift >= 0 else f'negsuc {-shift - 1}'})")
+        line(f"(three_shift {k} ≡ {f'pos {shift}' if shift >= 0 else f'negsuc {-shift - 1}'})")
     for n, p, rho, k in [(3, 500, 500, 1), (2, 5000, 625, 2)]:
-        digits(f"tailOf {n} {p} {rho} {k}", lambda side: tails(side, steps(side, n, p, rho)[1])[k])
+        digits(f"tail_of {n} {p} {rho} {k}", lambda side: tails(side, steps(side, n, p, rho)[1])[k])
     for n, p, rho, k in [(2, 5000, 625, 2), (2, 50, 0, 2), (3, 500, 500, 3)]:
-        line(f"(printedOf {n} {p} {rho} {k} ≡ {printed_tails(steps(0, n, p, rho)[1])[k]})")
-    line(f"(rowOf 3 500 500 2 ≡ {printed_rows(steps(0, 3, 500, 500)[1])[2]})")
+        line(f"(printed_of {n} {p} {rho} {k} ≡ {printed_tails(steps(0, n, p, rho)[1])[k]})")
+    line(f"(row_of 3 500 500 2 ≡ {printed_rows(steps(0, 3, 500, 500)[1])[2]})")
     made = [steps(side, 1, 0, 3000)[0][1] for side in (0, 1)]
     for side, name in enumerate(["Low", "High"]):
         significand, exponent = made[side][1]
-        line(f"(keptRow {name} 0 3000 1 1 ≡ record {{ significand = {significand}; exponent = pos {exponent} }})")
-    digits("λ side. keptRow side 0 3000 1 0", lambda side: made[side][0])
+        line(f"(kept_row {name} 0 3000 1 1 ≡ record {{ significand = {significand}; exponent = pos {exponent} }})")
+    digits("λ side. kept_row side 0 3000 1 0", lambda side: made[side][0])
     for pool, claims in VERDICTS:
         row = first_to_fail(*(chance_units(side, *pool) for side in (0, 1)), claims)
         listed = " ∷ ".join([*map(str, claims), "[]"])
-        line(f"(verdictFor {' '.join(map(str, pool))} ({listed}) ≡ {'Passed' if row is None else f'Fails {row}'})")
+        line(f"(verdict_for {' '.join(map(str, pool))} ({listed}) ≡ {'Passed' if row is None else f'Fails {row}'})")
     made = [beta_steps(side, 3, 1000, 3000) for side in (0, 1)]
     for j in range(4):
-        digits(f"λ side. keptEntry side 3 1000 3000 {j}", lambda side: made[side][0][-1][j])
-    digits("λ side. keptBetaDefaults side 3 1000 3000 1", lambda side: made[side][1][1])
-    digits("betaTail 1", lambda side: tails(side, made[side][1])[1])
-    digits("betaLoss 1000 3000 (lit< tt)", lambda side: loss(side, made[side][1], 4000, 1000, 3000))
+        digits(f"λ side. kept_entry side 3 1000 3000 {j}", lambda side: made[side][0][-1][j])
+    digits("λ side. kept_beta_defaults side 3 1000 3000 1", lambda side: made[side][1][1])
+    digits("beta_tail 1", lambda side: tails(side, made[side][1])[1])
+    digits("beta_loss 1000 3000 (lit< tt)", lambda side: loss(side, made[side][1], 4000, 1000, 3000))
     for k, row in enumerate(printed_rows(made[0][1])):
-        line(f"(betaRow {k} ≡ {row})")
+        line(f"(beta_row {k} ≡ {row})")
 
 
 if __name__ == "__main__":
