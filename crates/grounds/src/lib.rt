@@ -62,7 +62,7 @@ fn tranche_refusal(recovery: u32, lower: u32, upper: u32) -> u32
 }
 
 // Where row k of a store starts: the places of the rows before it. The product fits a word for every k.
-#[tactic(auto, using(crate::specs::Grounds::Laws::start_word, model::specs::Number::Laws::triangle_closed))]
+#[tactic(auto, using(model::specs::Number::Laws::triangle_closed))]
 pub fn row_start(k: u32) -> usize
     ensures { result ≡ triangle k }
 {
@@ -71,7 +71,7 @@ pub fn row_start(k: u32) -> usize
 }
 
 // The places of rows 0 to n.
-#[tactic(auto, unfolding(model::specs::Number::triangle), using(crate::specs::Grounds::Laws::start_word, crate::specs::Grounds::Laws::store_places_lem, model::specs::Number::Laws::triangle_closed))]
+#[tactic(auto, using(crate::specs::Grounds::Laws::start_word, crate::specs::Grounds::Laws::store_places_lem, model::specs::Number::Laws::triangle_closed))]
 pub fn store_places(n: u32) -> usize
     ensures { result ≡ store_places n }
 {
