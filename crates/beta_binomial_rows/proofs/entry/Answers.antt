@@ -1,8 +1,8 @@
 -- `entry` meets its contract.
 use Rattle.std.proofs.Common.{le_antisymm, add-one, arith}
 use Rattle.steps.specs.BetaBinomial.{kept_product, kept_entry, is_quotient, is_product}
-use Rattle.steps.specs.BetaBinomial.Theorems.{beta_exponents}
-use Rattle.steps.specs.Exponents.Laws.{ranged_operand}
+use Rattle.steps.proofs.BetaBinomial.Theorems.{beta_exponents}
+use Rattle.steps.proofs.Exponents.Laws.{ranged_operand}
 use Rattle.steps.specs.Inputs.{largest_pool}
 use Rattle.beta_binomial_rows.proofs.entry.Goals as goal
 

@@ -1,7 +1,7 @@
 -- `numerator` meets its contract.
 use Rattle.std.proofs.Common.{arith}
 use Rattle.model.specs.Fraction.{whole, complement}
-use Rattle.model.specs.BetaBinomial.Theorems.{default_factor, survival_factor}
+use Rattle.model.proofs.BetaBinomial.Theorems.{default_factor, survival_factor}
 use Rattle.beta_binomial_rows.proofs.numerator.Goals as goal
 
 pub overflow_sub-q : goal.overflow_sub-q

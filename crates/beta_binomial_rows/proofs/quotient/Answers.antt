@@ -2,7 +2,7 @@
 use Rattle.std.proofs.Common.{le_of_lt}
 use Rattle.model.specs.BetaBinomial.{quotient_denominator_positive}
 use Rattle.steps.specs.BetaBinomial.{kept_quotient}
-use Rattle.steps.specs.BetaBinomial.Laws.{quotient_digits}
+use Rattle.steps.proofs.BetaBinomial.Laws.{quotient_digits}
 use Rattle.beta_binomial_rows.proofs.quotient.Goals as goal
 
 pub from_ratio-requires-clause-positive : goal.from_ratio-requires-clause-positive

@@ -2,7 +2,7 @@
 use Rattle.std.proofs.Common.{le_trans, arith}
 use Rattle.std.proofs.Math.ListN.{length-replicate}
 use Rattle.steps.specs.Inputs.{working_assets}
-use Rattle.steps.specs.Inputs.Laws.{pool_works}
+use Rattle.steps.proofs.Inputs.Laws.{pool_works}
 use Rattle.working.specs.Working.{working_places}
 use Rattle.working.specs.Working.Laws.{entries_none, entries_more}
 use Rattle.beta_binomial_rows.proofs.row.Goals as goal

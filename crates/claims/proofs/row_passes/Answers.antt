@@ -6,7 +6,7 @@ use Rattle.kept.specs.declared.Side.TheVariants.{Low, High}
 use Rattle.kept.specs.Rounding.{value}
 use Rattle.kept.specs.Whole.{whole_of}
 use Rattle.steps.specs.Column.{units_of_certainty}
-use Rattle.steps.specs.Claims.Laws.{passes_halves}
+use Rattle.steps.proofs.Claims.Laws.{passes_halves}
 use Rattle.chances.specs.Tails.Laws.{halves_at_most}
 use Rattle.claims.proofs.row_passes.Goals as goal
 

@@ -1,7 +1,7 @@
 -- `expected_loss` meets its contract.
 use Rattle.std.proofs.Common.{arith}
 use Rattle.model.specs.Fraction.{whole}
-use Rattle.model.specs.Chances.Laws.{tranche_wide}
+use Rattle.model.proofs.Chances.Laws.{tranche_wide}
 use Rattle.kept.specs.Rounding.{nought}
 use Rattle.steps.specs.Chances.{kept_total}
 use Rattle.steps.specs.Inputs.{working_assets}

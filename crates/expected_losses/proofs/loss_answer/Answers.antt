@@ -3,7 +3,7 @@ use Rattle.std.proofs.Common.{refl, sym, ◌∙◌, eq-eqb, ne_eqb}
 use Rattle.model.specs.Fraction.Laws.{at_most_trans}
 use Rattle.kept.specs.Binary64.Laws.{below_shown_no}
 use Rattle.steps.specs.Loss.{loss_answer}
-use Rattle.steps.specs.Loss.Laws.{shown_to_two, raised_shown}
+use Rattle.steps.proofs.Loss.Laws.{shown_to_two, raised_shown}
 use Rattle.expected_losses.specs.Loss.{loss_of}
 use Rattle.expected_losses.proofs.loss_answer.Goals as goal
 

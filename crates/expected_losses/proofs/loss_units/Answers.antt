@@ -3,7 +3,7 @@ use Rattle.std.proofs.Common.{ℕ, ◌≡◌, ◌-◌, ◌*◌, ◌^◌, ◌<◌
 use Rattle.std.specs.Prelude.{min}
 use Rattle.model.specs.Fraction.{whole, complement}
 use Rattle.model.specs.Chances.{loss_units}
-use Rattle.model.specs.Chances.Laws.{loss_units_whole}
+use Rattle.model.proofs.Chances.Laws.{loss_units_whole}
 use Rattle.kept.specs.Rounding.Exponents.{difference_fits}
 use Rattle.steps.specs.Inputs.{working_assets, TrancheInRange}
 use Rattle.expected_losses.specs.Loss.Laws.{basis_points_signed, basis_points_word, difference_below, difference_whole}

@@ -1,7 +1,7 @@
 -- `tranche_loss` meets its contract.
 use Rattle.std.proofs.Common.{sym, ◌∙◌}
-use Rattle.model.specs.Chances.Laws.{tranche_wide}
-use Rattle.steps.specs.Tranches.Laws.{tranche_loss_is}
+use Rattle.model.proofs.Chances.Laws.{tranche_wide}
+use Rattle.steps.proofs.Tranches.Laws.{tranche_loss_is}
 use Rattle.expected_losses.proofs.tranche_loss.Goals as goal
 
 pub loss_answer-requires : goal.loss_answer-requires

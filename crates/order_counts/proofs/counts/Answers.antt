@@ -1,6 +1,6 @@
 -- `counts` meets its contract.
 use Rattle.std.proofs.Common.{◌≡◌, refl, arith, rules}
-use Rattle.steps.specs.Inputs.Laws.{up_to_lem}
+use Rattle.steps.proofs.Inputs.Laws.{up_to_lem}
 use Rattle.steps.specs.Counts.{exact_assets, summed_count, kept_count}
 use Rattle.working.specs.Working.Laws.{entries_same}
 use Rattle.order_counts.proofs.counts.Goals as goal

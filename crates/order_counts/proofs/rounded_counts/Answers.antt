@@ -3,7 +3,7 @@ use Rattle.std.proofs.Common.{◌≡◌, refl, ap, ◌∙◌, arith, suc}
 use Rattle.model.specs.Number.{choose}
 use Rattle.kept.specs.Rounding.{of_integer}
 use Rattle.steps.specs.Inputs.{working_assets}
-use Rattle.steps.specs.Inputs.Laws.{up_to_lem}
+use Rattle.steps.proofs.Inputs.Laws.{up_to_lem}
 use Rattle.steps.specs.Counts.{exact_assets, kept_count}
 use Rattle.working.specs.Working.{working_places}
 use Rattle.working.specs.Working.Laws.{entries_none, entries_more, entries_same}

@@ -3,8 +3,8 @@ use Rattle.std.proofs.Common.{◌≡◌, add-one, arith}
 use Rattle.kept.specs.Rounding.{Operand, unity, rounded_sum, nought}
 use Rattle.steps.specs.Inputs.{working_assets}
 use Rattle.steps.specs.Counts.{summed_count}
-use Rattle.steps.specs.Counts.Laws.{summed_ranged}
-use Rattle.steps.specs.Exponents.Laws.{ranged_operand}
+use Rattle.steps.proofs.Counts.Laws.{summed_ranged}
+use Rattle.steps.proofs.Exponents.Laws.{ranged_operand}
 use Rattle.working.specs.Working.{working_places}
 use Rattle.working.specs.Working.Laws.{entries_less}
 use Rattle.order_counts.specs.Counts.Laws.{pascal_first, pascal_none, pascal_added, pascal_more, pascal_all}

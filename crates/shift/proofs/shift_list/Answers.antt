@@ -1,9 +1,9 @@
 -- `shift_list` meets its contract.
 use Rattle.std.proofs.Common.{ℕ, ◌≡◌, List, refl, sym, ◌∙◌, lit<}
 use Rattle.steps.specs.CorrelatedBinomial.{kept_defaults}
-use Rattle.steps.specs.CorrelatedBinomial.Theorems.{pool_budgets, steps_hold}
+use Rattle.steps.proofs.CorrelatedBinomial.Theorems.{pool_budgets, steps_hold}
 use Rattle.steps.specs.Inputs.{report_pool}
-use Rattle.steps.specs.Inputs.Laws.{range_uncorrelated, report_range, working_range}
+use Rattle.steps.proofs.Inputs.Laws.{range_uncorrelated, report_range, working_range}
 use Rattle.working.specs.Slices.Laws.{entries_untouched}
 use Rattle.grounds.specs.Grounds.{first_ground, shift_grounds, four_lengths, EntriesAccepted}
 use Rattle.grounds.specs.Grounds.Laws.{entries_accepted, report_fill_accepted}

@@ -1,7 +1,7 @@
 -- `tails::in_units` meets its contract.
 use Rattle.std.proofs.Common.{◌+◌, ◌/◌, ◌≤◌, sym, ap, ◌∙◌, arith}
 use Rattle.steps.specs.Column.{units_of_certainty}
-use Rattle.steps.specs.Column.Laws.{in_units_halves}
+use Rattle.steps.proofs.Column.Laws.{in_units_halves}
 use Rattle.chances.specs.Tails.Laws.{halves_at_most}
 use Rattle.chances.proofs.tails.in_units.Goals as goal
 
