@@ -1,6 +1,8 @@
 // Answers standard input.
 #![tactic(auto)]
 
-fn main() {
-    console::answer();
+use std::io;
+
+fn main(rt: HostRuntime) -> io::Result<()> {
+    console::answer(&rt)
 }

@@ -1,19 +1,19 @@
 // Reads an input as far as reply's buffer goes, and writes the answer to it: the table of a column, or a refusal.
 #![tactic(auto)]
 
-use libc::{STDIN_FILENO, STDOUT_FILENO};
+use std::io;
+use std::io::{Read, Write};
 
-// The input is an open file. What cannot be read counts as its end.
-pub fn answer_from(input: i32) {
+pub fn answer_from(input: &mut impl Read, output: &mut impl Write) -> io::Result<()> {
     let mut start = [0u8; reply::START];
-    let count = io::read_full(input, &mut start);
+    let count = reading::read_full(input, &mut start)?;
     let reply = reply::reply_to_start(start, count);
     let text = reply.text;
     let length = reply.length;
-    io::write_all(STDOUT_FILENO, &text[..length]);
+    output.write_all(&text[..length])
 }
 
-// The input is standard input.
-pub fn answer() {
-    answer_from(STDIN_FILENO);
+// The input is standard input, and the output standard output.
+pub fn answer(rt: &(impl Input + Print)) -> io::Result<()> {
+    answer_from(&mut rt.reader(), &mut io::writer(rt))
 }

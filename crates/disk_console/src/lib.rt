@@ -6,10 +6,13 @@ mod files;
 mod lines;
 
 use compare::{same_head, same_side};
-use files::write_file;
-use libc::STDIN_FILENO;
+use files::{invalid_argument, name_too_long, open_to_read, write_file};
 use lines::{say_comparison, say_failure, say_refusal, write, write_number};
 use refusals::FILE_HEAD;
+use std::env::{Env, FillError};
+use std::io;
+use std::io::Read;
+use std::rt::Files;
 use steps::LARGEST_POOL;
 use store::Pool;
 use text::line::Line;
@@ -23,6 +26,9 @@ const FILE: usize = FILE_HEAD + 16 * STORE;
 // How many bytes of an input are read. A line has at most 18, so that one byte more decides.
 const START: usize = 64;
 
+// How many bytes of an argument are taken. A path has one fewer at most.
+const PATH: usize = 4_096;
+
 const EMPTY: Pool = Pool {
     assets: 0,
     probability: 0,
@@ -31,13 +37,14 @@ const EMPTY: Pool = Pool {
 
 // Compares a head and the entries of its rows with what is in the bytes of a file.
 fn compare_with_bytes(
+    rt: &impl Print,
     head: Pool,
     bytes: &[u8],
     low_significands: &[u32],
     high_significands: &[u32],
     low_exponents: &[i32],
     high_exponents: &[i32],
-) {
+) -> io::Result<()> {
     let mut read_low_significands = [0u32; STORE];
     let mut read_high_significands = [0u32; STORE];
     let mut read_low_exponents = [0i32; STORE];
@@ -50,10 +57,9 @@ fn compare_with_bytes(
         &mut read_low_exponents,
         &mut read_high_exponents,
     );
-    write(b"read back: ");
+    write(rt, b"read back: ")?;
     if read.refusal != 0 {
-        say_refusal(read.refusal);
-        return;
+        return say_refusal(rt, read.refusal);
     }
     let count = grounds::store_places(head.assets);
     let low = same_side(
@@ -70,42 +76,38 @@ fn compare_with_bytes(
         &read_high_significands,
         &read_high_exponents,
     );
-    say_comparison(same_head(head, read.head), low & high);
+    say_comparison(rt, same_head(head, read.head), low & high)
 }
 
 // Reads the file, and compares it with a head and the entries of its rows.
 pub fn compare_with_file(
+    rt: &(impl Files + Print),
     path: &[u8],
     head: Pool,
     low_significands: &[u32],
     high_significands: &[u32],
     low_exponents: &[i32],
     high_exponents: &[i32],
-) {
-    let file = os::open_read(path);
-    if file < 0 {
-        say_failure(b"cannot open to read");
-        return;
-    }
+) -> io::Result<()> {
+    let mut file = match open_to_read(rt, path) {
+        Ok(file) => file,
+        Err(error) => return say_failure(rt, b"cannot open to read", &error),
+    };
     // With room for one byte more, a file that is too long is seen to be.
     let mut bytes = [0u8; FILE + 1];
-    let count = io::read_full(file, &mut bytes);
-    // Tells the end of the file from a read that failed.
-    let mut rest = [0u8; 1];
-    if libc::read(file, &mut rest) < 0 {
-        say_failure(b"cannot read");
-        libc::close(file);
-        return;
-    }
-    libc::close(file);
+    let count = match reading::read_full(&mut file, &mut bytes) {
+        Ok(count) => count,
+        Err(error) => return say_failure(rt, b"cannot read", &error),
+    };
     compare_with_bytes(
+        rt,
         head,
         &bytes[..count],
         low_significands,
         high_significands,
         low_exponents,
         high_exponents,
-    );
+    )
 }
 
 // The bytes of the file of so many assets, at most those of the largest.
@@ -129,13 +131,14 @@ fn first_bytes(buffer: &mut [u8], count: usize) -> &mut [u8] {
 
 // Writes a store to the file. The answer is whether it is written.
 fn write_store(
+    rt: &(impl Files + Print),
     path: &[u8],
     head: Pool,
     low_significands: &[u32],
     high_significands: &[u32],
     low_exponents: &[i32],
     high_exponents: &[i32],
-) -> bool {
+) -> io::Result<bool> {
     let mut file = [0u8; FILE];
     let bytes = first_bytes(&mut file, file_length(head.assets));
     let refusal = store_file::write(
@@ -147,20 +150,20 @@ fn write_store(
         bytes,
     );
     if refusal != 0 {
-        say_refusal(refusal);
-        return false;
+        say_refusal(rt, refusal)?;
+        return Ok(false);
     }
-    if !write_file(path, bytes) {
-        return false;
+    if !write_file(rt, path, bytes)? {
+        return Ok(false);
     }
-    write(b"written ");
-    write_number(bytes.len() as u64);
-    write(b" bytes\n");
-    true
+    write(rt, b"written ")?;
+    write_number(rt, bytes.len() as u64)?;
+    write(rt, b" bytes\n")?;
+    Ok(true)
 }
 
 // Fills a store for the pool, writes it to the file, reads the file back and compares.
-fn answer_pool(pool: Pool, path: &[u8]) {
+fn answer_pool(rt: &(impl Files + Print), pool: Pool, path: &[u8]) -> io::Result<()> {
     let mut low_significands = [0u32; STORE];
     let mut high_significands = [0u32; STORE];
     let mut low_exponents = [0i32; STORE];
@@ -174,32 +177,38 @@ fn answer_pool(pool: Pool, path: &[u8]) {
         &mut high_exponents,
     );
     if filled.refusal != 0 {
-        say_refusal(filled.refusal);
-        return;
+        return say_refusal(rt, filled.refusal);
     }
     if write_store(
+        rt,
         path,
         filled.head,
         &low_significands,
         &high_significands,
         &low_exponents,
         &high_exponents,
-    ) {
+    )? {
         compare_with_file(
+            rt,
             path,
             filled.head,
             &low_significands,
             &high_significands,
             &low_exponents,
             &high_exponents,
-        );
+        )?;
     }
+    Ok(())
 }
 
-// The input is an open file with the line of a pool. What cannot be read counts as its end.
-pub fn answer_from(input: i32, path: &[u8]) {
+// The input has the line of a pool.
+pub fn answer_from(
+    rt: &(impl Files + Print),
+    input: &mut impl Read,
+    path: &[u8],
+) -> io::Result<()> {
     let mut start = [0u8; START];
-    let count = io::read_full(input, &mut start);
+    let count = reading::read_full(input, &mut start)?;
     match text::line::read_line(&start[..count]) {
         Line::Inputs(assets, probability, correlation) => {
             let pool = Pool {
@@ -207,19 +216,18 @@ pub fn answer_from(input: i32, path: &[u8]) {
                 probability,
                 correlation,
             };
-            answer_pool(pool, path);
+            answer_pool(rt, pool, path)
         }
-        Line::Refused => write(b"refused line\n"),
+        Line::Refused => write(rt, b"refused line\n"),
     }
 }
 
 // The input is standard input, and the path the first argument.
-pub fn answer() {
-    let mut path = io::buffer();
-    let length = os::arg(1, &mut path);
-    if os::errno() != 0 {
-        say_failure(b"no path");
-        return;
+pub fn answer(rt: &(impl Env + Files + Input + Print)) -> io::Result<()> {
+    let mut path = [0u8; PATH];
+    match rt.arg(1, &mut path) {
+        Ok(length) => answer_from(rt, &mut rt.reader(), &path[..length]),
+        Err(FillError::NotPresent) => say_failure(rt, b"no path", &invalid_argument()),
+        Err(FillError::TooLong) => say_failure(rt, b"no path", &name_too_long()),
     }
-    answer_from(STDIN_FILENO, &path[..length]);
 }

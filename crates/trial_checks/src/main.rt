@@ -4,25 +4,28 @@
 // the same lines out in exact whole numbers.
 #![tactic(auto)]
 
+use std::io;
 use trial_inputs::given::{read_claims, read_length, read_lengths, read_pool};
 use trial_lines::LARGE_ROWS;
 use trial_pool::run_check;
 use trial_support::read_number;
 
-fn run_case() {
-    let other = read_pool();
-    let pool = read_pool();
-    let lengths = read_lengths();
-    let count = read_length();
-    let claims = read_claims(count);
+fn run_case(rt: &(impl Input + Print)) -> io::Result<()> {
+    let other = read_pool(rt)?;
+    let pool = read_pool(rt)?;
+    let lengths = read_lengths(rt)?;
+    let count = read_length(rt)?;
+    let claims = read_claims(rt, count)?;
     if count <= LARGE_ROWS {
-        run_check(other, pool, &claims[0..count], lengths);
+        run_check(rt, other, pool, &claims[0..count], lengths)?;
     }
+    Ok(())
 }
 
-fn main() {
-    let cases = read_number();
+fn main(rt: HostRuntime) -> io::Result<()> {
+    let cases = read_number(&rt)?;
     for _ in 0..cases {
-        run_case();
+        run_case(&rt)?;
     }
+    Ok(())
 }

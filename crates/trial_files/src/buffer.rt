@@ -1,8 +1,8 @@
 // The buffer that files are written to and read from.
-use libc::STDOUT_FILENO;
+use std::io;
 use trial_inputs::given::read_length;
 use trial_lines::write_length;
-use trial_support::{next, read_number, write, write_field};
+use trial_support::{next, read_number, write, write_field, write_word};
 
 // More bytes than a file of 101 assets would have.
 pub const BUFFER: usize = 84_100;
@@ -29,12 +29,12 @@ fn put_random(first: u64, buffer: &mut [u8; BUFFER]) {
     }
 }
 
-pub fn run_bytes(buffer: &mut [u8; BUFFER]) {
-    let seed = read_number();
+pub fn run_bytes(rt: &(impl Input + Print), buffer: &mut [u8; BUFFER]) -> io::Result<()> {
+    let seed = read_number(rt)?;
     put_random(next(next(0x9e37_79b9_7f4a_7c15 ^ seed as u64)), buffer);
-    write(b"bytes");
-    write_field(seed);
-    write(b"\n");
+    write(rt, b"bytes")?;
+    write_field(rt, seed)?;
+    write(rt, b"\n")
 }
 
 fn put_byte(place: usize, i: usize, byte: u8, buffer: &mut [u8; BUFFER]) {
@@ -45,21 +45,27 @@ fn put_byte(place: usize, i: usize, byte: u8, buffer: &mut [u8; BUFFER]) {
     }
 }
 
-fn put_given(place: usize, count: usize, buffer: &mut [u8; BUFFER]) {
+fn put_given(
+    rt: &impl Input,
+    place: usize,
+    count: usize,
+    buffer: &mut [u8; BUFFER],
+) -> io::Result<()> {
     for i in 0..count {
-        let number = read_number();
+        let number = read_number(rt)?;
         put_byte(place, i, low_byte(number as u64), buffer);
     }
+    Ok(())
 }
 
-pub fn run_put(buffer: &mut [u8; BUFFER]) {
-    let place = read_length();
-    let count = read_length();
-    put_given(place, count, buffer);
-    write(b"put");
-    write_length(place);
-    write_length(count);
-    write(b"\n");
+pub fn run_put(rt: &(impl Input + Print), buffer: &mut [u8; BUFFER]) -> io::Result<()> {
+    let place = read_length(rt)?;
+    let count = read_length(rt)?;
+    put_given(rt, place, count, buffer)?;
+    write(rt, b"put")?;
+    write_length(rt, place)?;
+    write_length(rt, count)?;
+    write(rt, b"\n")
 }
 
 // The first places of the buffer, as many as asked for or as there are.
@@ -80,10 +86,12 @@ pub fn lent_bytes(buffer: &mut [u8], count: usize) -> &mut [u8] {
 }
 
 // In hexadecimal digits, two for each byte.
-fn write_bytes(bytes: &[u8]) {
+fn write_bytes(rt: &impl Print, bytes: &[u8]) -> io::Result<()> {
     for i in 0..bytes.len() {
-        io::print_hex(STDOUT_FILENO, wide(bytes[i]), 2);
+        let byte = bytes[i];
+        print!(rt; "{byte:02x}")?;
     }
+    Ok(())
 }
 
 fn checksum(bytes: &[u8]) -> u64 {
@@ -94,22 +102,22 @@ fn checksum(bytes: &[u8]) -> u64 {
     sum
 }
 
-fn write_checksum(bytes: &[u8]) {
-    write(b" ");
-    io::print_hex(STDOUT_FILENO, checksum(bytes), 16);
+fn write_checksum(rt: &impl Print, bytes: &[u8]) -> io::Result<()> {
+    write(rt, b" ")?;
+    write_word(rt, checksum(bytes))
 }
 
 // What the buffer holds, of which so many bytes were lent: these, if they were written and are not too many, and a checksum.
-pub fn write_buffer(refusal: u32, lent: usize, buffer: &[u8]) {
-    write(b" file");
+pub fn write_buffer(rt: &impl Print, refusal: u32, lent: usize, buffer: &[u8]) -> io::Result<()> {
+    write(rt, b" file")?;
     if (refusal == 0) & (lent <= SHOWN) {
-        write(b" ");
-        write_bytes(first_bytes(buffer, lent));
+        write(rt, b" ")?;
+        write_bytes(rt, first_bytes(buffer, lent))?;
     }
     if lent <= FEW {
-        write_checksum(first_bytes(buffer, FEW));
+        write_checksum(rt, first_bytes(buffer, FEW))?;
     } else {
-        write_checksum(buffer);
+        write_checksum(rt, buffer)?;
     }
-    write(b"\n");
+    write(rt, b"\n")
 }

@@ -1,6 +1,7 @@
 // The two calls, on the first places of the arrays and of the buffer.
 use super::buffer::{BUFFER, first_bytes, lent_bytes, write_buffer};
 use pool::{Filled, Pool};
+use std::io;
 use trial_inputs::given::{read_length, read_lengths};
 use trial_lines::{
     Call, LARGE_PLACES, Lengths, write_head, write_length, write_pool, write_refusal, write_store,
@@ -9,12 +10,18 @@ use trial_lines::{
 use trial_stores::{first_integers, first_naturals, read_head};
 use trial_support::write;
 
-fn write_given(name: &[u8], head: Pool, lengths: Lengths, bytes: usize) {
-    write(name);
-    write_pool(head);
-    write_store_lengths(lengths);
-    write(b" bytes");
-    write_length(bytes);
+fn write_given(
+    rt: &impl Print,
+    name: &[u8],
+    head: Pool,
+    lengths: Lengths,
+    bytes: usize,
+) -> io::Result<()> {
+    write(rt, name)?;
+    write_pool(rt, head)?;
+    write_store_lengths(rt, lengths)?;
+    write(rt, b" bytes")?;
+    write_length(rt, bytes)
 }
 
 fn write_on(
@@ -38,17 +45,18 @@ fn write_on(
 }
 
 pub(crate) fn run_write(
+    rt: &(impl Input + Print),
     held: Pool,
     low_significands: &[u32],
     high_significands: &[u32],
     low_exponents: &[i32],
     high_exponents: &[i32],
     buffer: &mut [u8; BUFFER],
-) {
-    let head = read_head(held);
-    let lengths = read_lengths();
-    let bytes = read_length();
-    write_given(b"write", head, lengths, bytes);
+) -> io::Result<()> {
+    let head = read_head(rt, held)?;
+    let lengths = read_lengths(rt)?;
+    let bytes = read_length(rt)?;
+    write_given(rt, b"write", head, lengths, bytes)?;
     let refusal = write_on(
         head,
         lengths,
@@ -59,8 +67,8 @@ pub(crate) fn run_write(
         high_exponents,
         buffer,
     );
-    write_refusal(refusal);
-    write_buffer(refusal, bytes, buffer);
+    write_refusal(rt, refusal)?;
+    write_buffer(rt, refusal, bytes, buffer)
 }
 
 fn read_on(
@@ -85,17 +93,18 @@ fn read_on(
 
 // Gives the head that the call hands back.
 pub(crate) fn run_read(
+    rt: &(impl Input + Print),
     held: Pool,
     low_significands: &mut [u32; LARGE_PLACES],
     high_significands: &mut [u32; LARGE_PLACES],
     low_exponents: &mut [i32; LARGE_PLACES],
     high_exponents: &mut [i32; LARGE_PLACES],
     buffer: &[u8],
-) -> Pool {
-    let head = read_head(held);
-    let lengths = read_lengths();
-    let bytes = read_length();
-    write_given(b"read file", head, lengths, bytes);
+) -> io::Result<Pool> {
+    let head = read_head(rt, held)?;
+    let lengths = read_lengths(rt)?;
+    let bytes = read_length(rt)?;
+    write_given(rt, b"read file", head, lengths, bytes)?;
     let filled = read_on(
         head,
         lengths,
@@ -106,15 +115,16 @@ pub(crate) fn run_read(
         high_exponents,
         buffer,
     );
-    write_refusal(filled.refusal);
-    write_head(filled.head);
+    write_refusal(rt, filled.refusal)?;
+    write_head(rt, filled.head)?;
     write_store(
+        rt,
         Call::Fill,
         lengths,
         low_significands,
         high_significands,
         low_exponents,
         high_exponents,
-    );
-    filled.head
+    )?;
+    Ok(filled.head)
 }

@@ -1,22 +1,21 @@
 // Files of bytes that were made outside Rattle. The name of one is the assets of its pool, in three digits.
 use super::buffer::BUFFER;
+use std::io::Read;
+use std::rt::Files;
+use std::{fs, io};
 use trial_lines::write_length;
 use trial_support::{read_number, write, write_field};
 
-fn digit(n: u32) -> u8 {
-    b'0' + (n % 10) as u8
-}
-
-// A descriptor, or a number below 0.
-fn open(name: u32) -> i32 {
-    os::open_read(&[digit(name / 100), digit(name / 10), digit(name)])
+// The file, if it can be opened.
+fn open<R: Files + Alloc>(rt: &R, name: u32) -> io::Result<Option<R::File>> {
+    let digits = name % 1_000;
+    let path = format!(in rt.alloc(); "{digits:03}")?;
+    Ok(fs::open(rt, path).ok())
 }
 
 // Puts the file at the start of an array, and gives how many bytes it has.
-fn load(file: i32, bytes: &mut [u8; BUFFER]) -> usize {
-    let count = io::read_full(file, bytes);
-    libc::close(file);
-    count
+fn load(file: &mut impl Read, bytes: &mut [u8; BUFFER]) -> io::Result<usize> {
+    reading::read_full(file, bytes)
 }
 
 // Whether so many bytes are the same.
@@ -31,39 +30,43 @@ fn same(count: usize, buffer: &[u8; BUFFER], bytes: &[u8; BUFFER]) -> bool {
     true
 }
 
-fn write_same(buffer: &[u8; BUFFER], file: i32) {
+fn write_same(rt: &impl Print, buffer: &[u8; BUFFER], file: &mut impl Read) -> io::Result<()> {
     let mut bytes = [0u8; BUFFER];
-    let count = load(file, &mut bytes);
-    write_length(count);
+    let count = load(file, &mut bytes)?;
+    write_length(rt, count)?;
     if same(count, buffer, &bytes) {
-        write(b" same\n");
+        write(rt, b" same\n")
     } else {
-        write(b" different\n");
+        write(rt, b" different\n")
     }
 }
 
-pub fn run_compare(buffer: &[u8; BUFFER]) {
-    let name = read_number();
-    write(b"compare");
-    write_field(name);
-    let file = open(name);
-    if file < 0 {
-        write(b" missing\n");
-    } else {
-        write_same(buffer, file);
+pub fn run_compare(
+    rt: &(impl Files + Input + Print + Alloc),
+    buffer: &[u8; BUFFER],
+) -> io::Result<()> {
+    let name = read_number(rt)?;
+    write(rt, b"compare")?;
+    write_field(rt, name)?;
+    match open(rt, name)? {
+        Some(mut file) => write_same(rt, buffer, &mut file),
+        None => write(rt, b" missing\n"),
     }
 }
 
-pub fn run_load(buffer: &mut [u8; BUFFER]) {
-    let name = read_number();
-    write(b"load");
-    write_field(name);
-    let file = open(name);
-    if file < 0 {
-        write(b" missing\n");
-    } else {
-        let count = load(file, buffer);
-        write_length(count);
-        write(b"\n");
+pub fn run_load(
+    rt: &(impl Files + Input + Print + Alloc),
+    buffer: &mut [u8; BUFFER],
+) -> io::Result<()> {
+    let name = read_number(rt)?;
+    write(rt, b"load")?;
+    write_field(rt, name)?;
+    match open(rt, name)? {
+        Some(mut file) => {
+            let count = load(&mut file, buffer)?;
+            write_length(rt, count)?;
+            write(rt, b"\n")
+        }
+        None => write(rt, b" missing\n"),
     }
 }

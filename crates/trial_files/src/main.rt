@@ -23,25 +23,32 @@ use calls::{run_read, run_write};
 use data::{run_compare, run_load};
 use entries::run_entry;
 use pool::Pool;
+use std::io;
+use std::rt::Files;
 use trial_lines::{LARGE_PLACES, pool_of};
 use trial_stores::run_step;
 use trial_support::read_number;
 
 // A step of the buffer alone.
-fn run_buffer_step(kind: u32, buffer: &mut [u8; BUFFER]) {
+fn run_buffer_step(
+    rt: &(impl Files + Input + Print + Alloc),
+    kind: u32,
+    buffer: &mut [u8; BUFFER],
+) -> io::Result<()> {
     if kind == 3 {
-        run_bytes(buffer);
+        run_bytes(rt, buffer)
     } else if kind == 4 {
-        run_put(buffer);
+        run_put(rt, buffer)
     } else if kind == 8 {
-        run_compare(buffer);
+        run_compare(rt, buffer)
     } else {
-        run_load(buffer);
+        run_load(rt, buffer)
     }
 }
 
 // A step of the store and the buffer. Gives the head of the store after it.
 fn run_file_step(
+    rt: &(impl Files + Input + Print + Alloc),
     kind: u32,
     head: Pool,
     low_significands: &mut [u32; LARGE_PLACES],
@@ -49,9 +56,10 @@ fn run_file_step(
     low_exponents: &mut [i32; LARGE_PLACES],
     high_exponents: &mut [i32; LARGE_PLACES],
     buffer: &mut [u8; BUFFER],
-) -> Pool {
+) -> io::Result<Pool> {
     if kind == 7 {
         return run_read(
+            rt,
             head,
             low_significands,
             high_significands,
@@ -62,37 +70,41 @@ fn run_file_step(
     }
     if kind == 6 {
         run_write(
+            rt,
             head,
             low_significands,
             high_significands,
             low_exponents,
             high_exponents,
             buffer,
-        );
+        )?;
     } else if kind == 5 {
         run_entry(
+            rt,
             low_significands,
             high_significands,
             low_exponents,
             high_exponents,
-        );
+        )?;
     } else {
-        run_buffer_step(kind, buffer);
+        run_buffer_step(rt, kind, buffer)?;
     }
-    head
+    Ok(head)
 }
 
 fn run_next(
+    rt: &(impl Files + Input + Print + Alloc),
     head: Pool,
     low_significands: &mut [u32; LARGE_PLACES],
     high_significands: &mut [u32; LARGE_PLACES],
     low_exponents: &mut [i32; LARGE_PLACES],
     high_exponents: &mut [i32; LARGE_PLACES],
     buffer: &mut [u8; BUFFER],
-) -> Pool {
-    let kind = read_number();
+) -> io::Result<Pool> {
+    let kind = read_number(rt)?;
     if kind < 3 {
         return run_step(
+            rt,
             kind,
             head,
             low_significands,
@@ -102,6 +114,7 @@ fn run_next(
         );
     }
     run_file_step(
+        rt,
         kind,
         head,
         low_significands,
@@ -112,22 +125,24 @@ fn run_next(
     )
 }
 
-fn main() {
+fn main(rt: HostRuntime) -> io::Result<()> {
     let mut low_significands = [0u32; LARGE_PLACES];
     let mut high_significands = [0u32; LARGE_PLACES];
     let mut low_exponents = [0i32; LARGE_PLACES];
     let mut high_exponents = [0i32; LARGE_PLACES];
     let mut buffer = [0u8; BUFFER];
     let mut head = pool_of(0, 0, 0);
-    let steps = read_number();
+    let steps = read_number(&rt)?;
     for _ in 0..steps {
         head = run_next(
+            &rt,
             head,
             &mut low_significands,
             &mut high_significands,
             &mut low_exponents,
             &mut high_exponents,
             &mut buffer,
-        );
+        )?;
     }
+    Ok(())
 }

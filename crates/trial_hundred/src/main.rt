@@ -7,6 +7,7 @@
 ghost use Rattle.std.specs.Prelude.{◌≤◌};
 
 use pool::Pool;
+use std::io;
 use trial_inputs::edges::{
     List, corners, exact_lengths, list_lengths, longer_lengths, over_others, rows_of,
 };
@@ -37,143 +38,155 @@ fn none() -> Lengths {
 
 // ---- pools
 
-fn between(call: Call, assets: u32) {
-    run_ample(call, pool(assets));
-    run_ample(call, pool_of(assets, 5_000, 0));
-    run_ample(call, pool_of(assets, 5_000, 5_000));
-    run_ample(call, pool_of(assets, 2, 9_998));
+fn between(rt: &impl Print, call: Call, assets: u32) -> io::Result<()> {
+    run_ample(rt, call, pool(assets))?;
+    run_ample(rt, call, pool_of(assets, 5_000, 0))?;
+    run_ample(rt, call, pool_of(assets, 5_000, 5_000))?;
+    run_ample(rt, call, pool_of(assets, 2, 9_998))
 }
 
-fn pools_by(library: Library, assets: u32) {
-    corners(column(library), assets);
-    between(column(library), assets);
-    between(loss(library), assets);
-    between(losses(library, 8, spread()), assets);
+fn pools_by(rt: &impl Print, library: Library, assets: u32) -> io::Result<()> {
+    corners(rt, column(library), assets)?;
+    between(rt, column(library), assets)?;
+    between(rt, loss(library), assets)?;
+    between(rt, losses(library, 8, spread()), assets)
 }
 
-fn all_pools(assets: u32) {
-    between(Call::Fill, assets);
-    pools_by(Library::Pool, assets);
-    pools_by(Library::BetaBinomial, assets);
+fn all_pools(rt: &impl Print, assets: u32) -> io::Result<()> {
+    between(rt, Call::Fill, assets)?;
+    pools_by(rt, Library::Pool, assets)?;
+    pools_by(rt, Library::BetaBinomial, assets)
 }
 
 // ---- refusals
 
 // More than 100 assets, and nothing else wrong; then everything. Then 100 assets with one thing right after the other.
-fn order(call: Call) {
-    run(call, pool(101), whole());
-    run(call, pool(0xffff_ffff), whole());
-    run(call, pool_of(101, 10_001, 10_001), none());
-    run(call, pool_of(100, 10_001, 10_001), none());
-    run(call, pool_of(100, 1_000, 10_001), none());
-    run(call, pool_of(100, 1_000, 10_000), none());
-    run(call, pool(100), none());
-    run(call, pool(100), whole());
+fn order(rt: &impl Print, call: Call) -> io::Result<()> {
+    run(rt, call, pool(101), whole())?;
+    run(rt, call, pool(0xffff_ffff), whole())?;
+    run(rt, call, pool_of(101, 10_001, 10_001), none())?;
+    run(rt, call, pool_of(100, 10_001, 10_001), none())?;
+    run(rt, call, pool_of(100, 1_000, 10_001), none())?;
+    run(rt, call, pool_of(100, 1_000, 10_000), none())?;
+    run(rt, call, pool(100), none())?;
+    run(rt, call, pool(100), whole())
 }
 
-fn order_by(library: Library) {
+fn order_by(rt: &impl Print, library: Library) -> io::Result<()> {
     let refused = repeated(refused_tranche());
-    order(Call::Column(library, 100));
-    order(Call::Loss(library, refused_tranche()));
-    order(losses(library, 0, refused));
-    order(losses(library, 9, spread()));
-    order(losses(library, 8, spread()));
+    order(rt, Call::Column(library, 100))?;
+    order(rt, Call::Loss(library, refused_tranche()))?;
+    order(rt, losses(library, 0, refused))?;
+    order(rt, losses(library, 9, spread()))?;
+    order(rt, losses(library, 8, spread()))
 }
 
-fn refusals() {
-    order(Call::Fill);
-    order_by(Library::Pool);
-    order_by(Library::BetaBinomial);
-    row(101, 0, 5_156);
-    row(101, 102, 5_156);
-    row(101, 0, 0);
-    row(100, 101, 5_150);
+fn refusals(rt: &impl Print) -> io::Result<()> {
+    order(rt, Call::Fill)?;
+    order_by(rt, Library::Pool)?;
+    order_by(rt, Library::BetaBinomial)?;
+    row(rt, 101, 0, 5_156)?;
+    row(rt, 101, 102, 5_156)?;
+    row(rt, 101, 0, 0)?;
+    row(rt, 100, 101, 5_150)
 }
 
 // ---- lengths
 
-fn store_lengths(call: Call, pool: Pool, exact: usize, short: usize)
+fn store_lengths(
+    rt: &impl Print,
+    call: Call,
+    pool: Pool,
+    exact: usize,
+    short: usize,
+) -> io::Result<()>
     requires { exact ≤ 5151 }
 {
-    exact_lengths(call, pool, exact, short);
-    longer_lengths(call, pool, exact);
+    exact_lengths(rt, call, pool, exact, short)?;
+    longer_lengths(rt, call, pool, exact)
 }
 
 // A column that fits, and one place short.
-fn beta_lengths(pool: Pool, rows: usize)
+fn beta_lengths(rt: &impl Print, pool: Pool, rows: usize) -> io::Result<()>
     requires { 1 ≤ rows }
 {
-    run_ample(Call::Column(Library::BetaBinomial, rows), pool);
-    run_ample(Call::Column(Library::BetaBinomial, rows - 1), pool);
+    run_ample(rt, Call::Column(Library::BetaBinomial, rows), pool)?;
+    run_ample(rt, Call::Column(Library::BetaBinomial, rows - 1), pool)
 }
 
-fn lengths(assets: u32, exact: usize, short: usize, rows: usize)
+fn lengths(rt: &impl Print, assets: u32, exact: usize, short: usize, rows: usize) -> io::Result<()>
     requires { (assets ≤ 100) × ((exact ≤ 5151) × ((1 ≤ rows) × (rows ≤ 101))) }
 {
     let eight = losses(Library::Pool, 8, spread());
-    store_lengths(Call::Fill, pool(assets), exact, short);
-    store_lengths(eight, pool(assets), exact, short);
-    list_lengths(List::Column(Library::Pool), assets, exact, short, rows);
-    beta_lengths(pool(assets), rows);
-    rows_of(assets, exact, short);
+    store_lengths(rt, Call::Fill, pool(assets), exact, short)?;
+    store_lengths(rt, eight, pool(assets), exact, short)?;
+    list_lengths(rt, List::Column(Library::Pool), assets, exact, short, rows)?;
+    beta_lengths(rt, pool(assets), rows)?;
+    rows_of(rt, assets, exact, short)
 }
 
 // ---- stores
 
 // A row of a store for 100 assets, read as that of a pool with so many.
-fn row_of(assets: u32, k: u32) {
-    run_over(pool(100), Call::Row(k), pool(assets));
+fn row_of(rt: &impl Print, assets: u32, k: u32) -> io::Result<()> {
+    run_over(rt, pool(100), Call::Row(k), pool(assets))
 }
 
-fn smaller_stores() {
-    row_of(1, 1);
-    row_of(64, 0);
-    row_of(64, 64);
-    row_of(64, 65);
-    row_of(65, 65);
-    row_of(99, 99);
-    row_of(99, 100);
-    row_of(101, 0);
+fn smaller_stores(rt: &impl Print) -> io::Result<()> {
+    row_of(rt, 1, 1)?;
+    row_of(rt, 64, 0)?;
+    row_of(rt, 64, 64)?;
+    row_of(rt, 64, 65)?;
+    row_of(rt, 65, 65)?;
+    row_of(rt, 99, 99)?;
+    row_of(rt, 99, 100)?;
+    row_of(rt, 101, 0)
 }
 
 // Over what pools of 100 assets left.
-fn over_hundred(call: Call) {
-    run_over(pool_of(100, 500, 250), call, pool(3));
-    run_over(pool_of(100, 500, 250), call, pool(64));
-    run_over(pool_of(100, 500, 250), call, pool(65));
-    run_over(pool_of(100, 10_000, 10_000), call, pool(100));
-    run_over(pool_of(100, 500, 250), call, pool(101));
+fn over_hundred(rt: &impl Print, call: Call) -> io::Result<()> {
+    run_over(rt, pool_of(100, 500, 250), call, pool(3))?;
+    run_over(rt, pool_of(100, 500, 250), call, pool(64))?;
+    run_over(rt, pool_of(100, 500, 250), call, pool(65))?;
+    run_over(rt, pool_of(100, 10_000, 10_000), call, pool(100))?;
+    run_over(rt, pool_of(100, 500, 250), call, pool(101))
 }
 
-fn over(call: Call) {
-    over_others(call, pool(100));
-    over_hundred(call);
+fn over(rt: &impl Print, call: Call) -> io::Result<()> {
+    over_others(rt, call, pool(100))?;
+    over_hundred(rt, call)
 }
 
-fn stores() {
-    filled_rows(pool(100), 102);
-    smaller_stores();
-    over(Call::Fill);
-    over(column(Library::Pool));
+fn stores(rt: &impl Print) -> io::Result<()> {
+    filled_rows(rt, pool(100), 102)?;
+    smaller_stores(rt)?;
+    over(rt, Call::Fill)?;
+    over(rt, column(Library::Pool))
 }
 
 // ---- the last digits
 
-fn digit(library: Library, assets: u32, probability: u32, correlation: u32) {
+fn digit(
+    rt: &impl Print,
+    library: Library,
+    assets: u32,
+    probability: u32,
+    correlation: u32,
+) -> io::Result<()> {
     let pool = pool_of(assets, probability, correlation);
-    run_ample(column(library), pool);
-    run_ample(loss(library), pool);
+    run_ample(rt, column(library), pool)?;
+    run_ample(rt, loss(library), pool)
 }
 
-fn digits() {
+fn digits(rt: &impl Print) -> io::Result<()> {
     // Counts of orders by sums would give another unit, and change both bounds of the loss.
-    digit(Library::Pool, 64, 1_100, 2_800);
+    digit(rt, Library::Pool, 64, 1_100, 2_800)?;
     // Counts that are worked out exactly would.
-    digit(Library::Pool, 65, 1_600, 1_500);
-    digit(Library::Pool, 70, 5_800, 500);
-    digit(Library::BetaBinomial, 83, 3_600, 2_900);
-    digit(Library::BetaBinomial, 99, 5_300, 2_300);
-    digit(Library::Pool, 100, 5_200, 1_400);
+    digit(rt, Library::Pool, 65, 1_600, 1_500)?;
+    digit(rt, Library::Pool, 70, 5_800, 500)?;
+    digit(rt, Library::BetaBinomial, 83, 3_600, 2_900)?;
+    digit(rt, Library::BetaBinomial, 99, 5_300, 2_300)?;
+    digit(rt, Library::Pool, 100, 5_200, 1_400)
 }
 
 // ---- losses around 2^−800
@@ -206,22 +219,26 @@ fn around_100() -> Records {
     )
 }
 
-fn edges() {
-    run_ample(losses(Library::Pool, 8, around_65()), pool_of(65, 1, 0));
-    run_ample(losses(Library::Pool, 8, around_100()), pool_of(100, 1, 0));
+fn edges(rt: &impl Print) -> io::Result<()> {
+    run_ample(rt, losses(Library::Pool, 8, around_65()), pool_of(65, 1, 0))?;
+    run_ample(
+        rt,
+        losses(Library::Pool, 8, around_100()),
+        pool_of(100, 1, 0),
+    )
 }
 
-fn main() {
-    all_pools(64);
-    all_pools(65);
-    all_pools(99);
-    all_pools(100);
-    refusals();
-    lengths(65, 2_211, 2_210, 66);
-    lengths(99, 5_050, 5_049, 100);
-    lengths(100, 5_151, 5_150, 101);
-    stores();
-    digits();
-    edges();
-    random_cases(100, Calls::Large);
+fn main(rt: HostRuntime) -> io::Result<()> {
+    all_pools(&rt, 64)?;
+    all_pools(&rt, 65)?;
+    all_pools(&rt, 99)?;
+    all_pools(&rt, 100)?;
+    refusals(&rt)?;
+    lengths(&rt, 65, 2_211, 2_210, 66)?;
+    lengths(&rt, 99, 5_050, 5_049, 100)?;
+    lengths(&rt, 100, 5_151, 5_150, 101)?;
+    stores(&rt)?;
+    digits(&rt)?;
+    edges(&rt)?;
+    random_cases(&rt, 100, Calls::Large)
 }

@@ -1,5 +1,6 @@
 // Random pools, tranches and layers.
 use pool::{Pool, Tranche};
+use std::io;
 use trial_lines::tranches::{Records, Tranches, tranche_of};
 use trial_lines::{Call, LARGE_ROWS, Library, ROWS};
 use trial_pool::{BEYOND, BEYOND_REPORT, run_ample};
@@ -173,67 +174,68 @@ fn random_layer(word: u64, assets: u32) -> Call {
     Call::Layer(i, j)
 }
 
-fn run_losses(pool: Pool, small: Pool, tranches: Tranches) {
-    run_ample(Call::Losses(Library::Pool, tranches), pool);
-    run_ample(Call::Losses(Library::Screen, tranches), small);
-    run_ample(Call::Losses(Library::BetaBinomial, tranches), pool);
+fn run_losses(rt: &impl Print, pool: Pool, small: Pool, tranches: Tranches) -> io::Result<()> {
+    run_ample(rt, Call::Losses(Library::Pool, tranches), pool)?;
+    run_ample(rt, Call::Losses(Library::Screen, tranches), small)?;
+    run_ample(rt, Call::Losses(Library::BetaBinomial, tranches), pool)
 }
 
-fn run_large(pool: Pool, tranches: Tranches) {
-    run_ample(Call::Column(Library::Pool, LARGE_ROWS), pool);
-    run_ample(Call::Column(Library::BetaBinomial, LARGE_ROWS), pool);
-    run_ample(Call::Losses(Library::Pool, tranches), pool);
-    run_ample(Call::Losses(Library::BetaBinomial, tranches), pool);
+fn run_large(rt: &impl Print, pool: Pool, tranches: Tranches) -> io::Result<()> {
+    run_ample(rt, Call::Column(Library::Pool, LARGE_ROWS), pool)?;
+    run_ample(rt, Call::Column(Library::BetaBinomial, LARGE_ROWS), pool)?;
+    run_ample(rt, Call::Losses(Library::Pool, tranches), pool)?;
+    run_ample(rt, Call::Losses(Library::BetaBinomial, tranches), pool)
 }
 
-fn run_layer(pool: Pool, word: u64) {
-    run_ample(random_layer(word, pool.assets), pool);
+fn run_layer(rt: &impl Print, pool: Pool, word: u64) -> io::Result<()> {
+    run_ample(rt, random_layer(word, pool.assets), pool)
 }
 
-fn run_calls(calls: Calls, word: u64) {
+fn run_calls(rt: &impl Print, calls: Calls, word: u64) -> io::Result<()> {
     let pool = random_pool(word, BEYOND);
     let small = small_pool(word);
     let fourth = after(word, 3);
     let tranche = random_tranche(fourth);
     match calls {
         Calls::Library => {
-            run_ample(Call::Fill, pool);
-            run_ample(Call::Column(Library::Pool, ROWS), pool);
-            run_ample(Call::Loss(Library::Pool, tranche), pool);
+            run_ample(rt, Call::Fill, pool)?;
+            run_ample(rt, Call::Column(Library::Pool, ROWS), pool)?;
+            run_ample(rt, Call::Loss(Library::Pool, tranche), pool)
         }
-        Calls::Shifts => run_ample(Call::Shifts(ROWS), random_pool(word, BEYOND_REPORT)),
+        Calls::Shifts => run_ample(rt, Call::Shifts(ROWS), random_pool(word, BEYOND_REPORT)),
         Calls::Screen => {
-            run_ample(Call::Column(Library::Pool, ROWS), small);
-            run_ample(Call::Column(Library::Screen, ROWS), small);
-            run_ample(Call::Loss(Library::Pool, tranche), small);
-            run_ample(Call::Loss(Library::Screen, tranche), small);
+            run_ample(rt, Call::Column(Library::Pool, ROWS), small)?;
+            run_ample(rt, Call::Column(Library::Screen, ROWS), small)?;
+            run_ample(rt, Call::Loss(Library::Pool, tranche), small)?;
+            run_ample(rt, Call::Loss(Library::Screen, tranche), small)
         }
         Calls::Beta => {
-            run_ample(Call::Column(Library::BetaBinomial, ROWS), pool);
-            run_ample(Call::Loss(Library::BetaBinomial, tranche), pool);
+            run_ample(rt, Call::Column(Library::BetaBinomial, ROWS), pool)?;
+            run_ample(rt, Call::Loss(Library::BetaBinomial, tranche), pool)
         }
-        Calls::Losses => run_losses(pool, small, random_tranches(fourth)),
-        Calls::Large => run_large(large_pool(word), random_tranches(fourth)),
+        Calls::Losses => run_losses(rt, pool, small, random_tranches(fourth)),
+        Calls::Large => run_large(rt, large_pool(word), random_tranches(fourth)),
         Calls::Layers => {
-            run_layer(pool, fourth);
-            run_layer(large_pool(word), fourth);
+            run_layer(rt, pool, fourth)?;
+            run_layer(rt, large_pool(word), fourth)
         }
     }
 }
 
 // Runs the calls on a random pool and tranche or tranches, and gives the word of the next.
-fn case(word: u64, calls: Calls) -> u64 {
-    run_calls(calls, word);
+fn case(rt: &impl Print, word: u64, calls: Calls) -> io::Result<u64> {
+    run_calls(rt, calls, word)?;
     match calls {
-        Calls::Losses => after(word, 36),
-        Calls::Large => after(word, 36),
-        _ => after(word, 7),
+        Calls::Losses => Ok(after(word, 36)),
+        Calls::Large => Ok(after(word, 36)),
+        _ => Ok(after(word, 7)),
     }
 }
 
-pub fn random_cases(count: u32, calls: Calls) {
+pub fn random_cases(rt: &impl Print, count: u32, calls: Calls) -> io::Result<()> {
     let mut word: u64 = 0x9e37_79b9_7f4a_7c15;
     for _ in 0..count {
-        word = case(word, calls);
+        word = case(rt, word, calls)?;
     }
+    Ok(())
 }

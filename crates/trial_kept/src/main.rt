@@ -6,112 +6,117 @@ ghost use Rattle.std.specs.Prelude.{◌<◌, ◌^◌};
 ghost use Rattle.kept.specs.Rounding.{Operand};
 
 use kept::{Kept, Side};
+use std::io;
 use trial_support::{next, operand, write, write_bits, write_integer, write_number};
 
-fn write_kept(x: Kept) {
-    write_number(x.significand as u64);
-    write(b" ");
-    write_integer(x.exponent);
+fn write_kept(rt: &impl Print, x: Kept) -> io::Result<()> {
+    write_number(rt, x.significand as u64)?;
+    write(rt, b" ")?;
+    write_integer(rt, x.exponent)
 }
 
 // Ends a line with the two results.
-fn write_results(low: Kept, high: Kept) {
-    write(b" = ");
-    write_kept(low);
-    write(b" .. ");
-    write_kept(high);
-    write(b"\n");
+fn write_results(rt: &impl Print, low: Kept, high: Kept) -> io::Result<()> {
+    write(rt, b" = ")?;
+    write_kept(rt, low)?;
+    write(rt, b" .. ")?;
+    write_kept(rt, high)?;
+    write(rt, b"\n")
 }
 
-fn write_operands(name: &[u8], x: Kept, y: Kept) {
-    write(name);
-    write_kept(x);
-    write(b" ");
-    write_kept(y);
+fn write_operands(rt: &impl Print, name: &[u8], x: Kept, y: Kept) -> io::Result<()> {
+    write(rt, name)?;
+    write_kept(rt, x)?;
+    write(rt, b" ")?;
+    write_kept(rt, y)
 }
 
-fn pair(x: Kept, y: Kept)
+fn pair(rt: &impl Print, x: Kept, y: Kept) -> io::Result<()>
     requires { (Operand x) × (Operand y) }
 {
-    write_operands(b"product ", x, y);
-    write_results(x.product(y, Side::Low), x.product(y, Side::High));
-    write_operands(b"sum ", x, y);
-    write_results(x.sum(y, Side::Low), x.sum(y, Side::High));
+    write_operands(rt, b"product ", x, y)?;
+    write_results(rt, x.product(y, Side::Low), x.product(y, Side::High))?;
+    write_operands(rt, b"sum ", x, y)?;
+    write_results(rt, x.sum(y, Side::Low), x.sum(y, Side::High))
 }
 
-fn quotient(x: Kept, divisor: u32)
+fn quotient(rt: &impl Print, x: Kept, divisor: u32) -> io::Result<()>
     requires { (Operand x) × (0 < divisor) }
 {
-    write(b"quotient ");
-    write_kept(x);
-    write(b" ");
-    write_number(divisor as u64);
+    write(rt, b"quotient ")?;
+    write_kept(rt, x)?;
+    write(rt, b" ")?;
+    write_number(rt, divisor as u64)?;
     write_results(
+        rt,
         x.quotient(divisor, Side::Low),
         x.quotient(divisor, Side::High),
-    );
+    )
 }
 
 // The bits of the f64 of a number, or on which side of those that have one it lies.
-fn write_f64(x: Kept)
+fn write_f64(rt: &impl Print, x: Kept) -> io::Result<()>
     requires { Operand x }
 {
     if x.is_below_shown() {
-        write(b"below");
+        write(rt, b"below")
     } else if x.exponent > 192 {
-        write(b"above");
+        write(rt, b"above")
     } else {
-        write_bits(x.to_f64());
+        write_bits(rt, x.to_f64())
     }
 }
 
-fn shown(x: Kept)
+fn shown(rt: &impl Print, x: Kept) -> io::Result<()>
     requires { Operand x }
 {
-    write(b"f64 ");
-    write_kept(x);
-    write(b" = ");
-    write_f64(x);
-    write(b"\n");
+    write(rt, b"f64 ")?;
+    write_kept(rt, x)?;
+    write(rt, b" = ")?;
+    write_f64(rt, x)?;
+    write(rt, b"\n")
 }
 
-fn constants() {
-    write(b"zero = ");
-    write_kept(Kept::zero());
-    write(b"\none = ");
-    write_kept(Kept::one());
-    write(b"\n");
+fn constants(rt: &impl Print) -> io::Result<()> {
+    write(rt, b"zero = ")?;
+    write_kept(rt, Kept::zero())?;
+    write(rt, b"\none = ")?;
+    write_kept(rt, Kept::one())?;
+    write(rt, b"\n")
 }
 
-fn integer(n: u64) {
-    write(b"integer ");
-    write_number(n);
+fn integer(rt: &impl Print, n: u64) -> io::Result<()> {
+    write(rt, b"integer ")?;
+    write_number(rt, n)?;
     write_results(
+        rt,
         Kept::from_integer(n, Side::Low),
         Kept::from_integer(n, Side::High),
-    );
+    )
 }
 
-fn basis_points(p: u32) {
-    write(b"basis points ");
-    write_number(p as u64);
+fn basis_points(rt: &impl Print, p: u32) -> io::Result<()> {
+    write(rt, b"basis points ")?;
+    write_number(rt, p as u64)?;
     write_results(
+        rt,
         Kept::from_basis_points(p, Side::Low),
         Kept::from_basis_points(p, Side::High),
-    );
+    )
 }
 
-fn ratio(n: u64, m: u64)
+fn ratio(rt: &impl Print, n: u64, m: u64) -> io::Result<()>
     requires { (0 < m) × (m < 2 ^ 34) }
 {
-    write(b"ratio ");
-    write_number(n);
-    write(b" ");
-    write_number(m);
+    write(rt, b"ratio ")?;
+    write_number(rt, n)?;
+    write(rt, b" ")?;
+    write_number(rt, m)?;
     write_results(
+        rt,
         Kept::from_ratio(n, m, Side::Low),
         Kept::from_ratio(n, m, Side::High),
-    );
+    )
 }
 
 fn edge_integer(i: u32) -> u64 {
@@ -188,25 +193,25 @@ fn edge_exponent(i: u32) -> i32 {
     }
 }
 
-fn zero_pair(n: u32) {
+fn zero_pair(rt: &impl Print, n: u32) -> io::Result<()> {
     let x = operand(edge_significand(n), -31);
     let zero = operand(0, 0);
-    pair(zero, x);
-    pair(x, zero);
+    pair(rt, zero, x)?;
+    pair(rt, x, zero)
 }
 
-fn edge_pair(n: u32) {
+fn edge_pair(rt: &impl Print, n: u32) -> io::Result<()> {
     let x = operand(edge_significand(n % 7 + 1), 0);
     let y = operand(edge_significand(n / 7 % 7 + 1), edge_exponent(n / 49));
-    pair(x, y);
+    pair(rt, x, y)
 }
 
-fn far_pairs() {
+fn far_pairs(rt: &impl Print) -> io::Result<()> {
     let small = operand(0xffff_ffff, -80_000);
     let large = operand(0xffff_ffff, 100);
-    pair(small, large);
-    pair(large, small);
-    pair(small, small);
+    pair(rt, small, large)?;
+    pair(rt, large, small)?;
+    pair(rt, small, small)
 }
 
 fn edge_divisor(i: u32) -> u32
@@ -224,9 +229,9 @@ fn edge_divisor(i: u32) -> u32
     }
 }
 
-fn edge_quotient(n: u32) {
+fn edge_quotient(rt: &impl Print, n: u32) -> io::Result<()> {
     let x = operand(edge_significand(n % 8), -31);
-    quotient(x, edge_divisor(n / 8));
+    quotient(rt, x, edge_divisor(n / 8))
 }
 
 fn edge_ratio_divisor(i: u32) -> u64
@@ -245,8 +250,8 @@ fn edge_ratio_divisor(i: u32) -> u64
     }
 }
 
-fn edge_ratio(n: u32) {
-    ratio(edge_integer(n % 18), edge_ratio_divisor(n / 18));
+fn edge_ratio(rt: &impl Print, n: u32) -> io::Result<()> {
+    ratio(rt, edge_integer(n % 18), edge_ratio_divisor(n / 18))
 }
 
 fn shown_exponent(i: u32) -> i32 {
@@ -262,8 +267,11 @@ fn shown_exponent(i: u32) -> i32 {
     }
 }
 
-fn edge_shown(n: u32) {
-    shown(operand(edge_significand(n % 7 + 1), shown_exponent(n / 7)));
+fn edge_shown(rt: &impl Print, n: u32) -> io::Result<()> {
+    shown(
+        rt,
+        operand(edge_significand(n % 7 + 1), shown_exponent(n / 7)),
+    )
 }
 
 fn random_significand(word: u64) -> u32 {
@@ -276,16 +284,16 @@ fn random_exponent(n: u64) -> i32 {
 }
 
 // The second exponent lies within 40 of the first, or in one case of four anywhere.
-fn random_case(first: u64, second: u64) {
+fn random_case(rt: &impl Print, first: u64, second: u64) -> io::Result<()> {
     let place = first % 1_201;
     let near = second % 4 > 0;
     let other = if near { place + second % 81 } else { second };
     let x = operand(random_significand(first), random_exponent(place + 40));
     let y = operand(random_significand(second), random_exponent(other));
-    pair(x, y);
-    quotient(x, (second % 0xffff_ffff) as u32 + 1);
-    quotient(y, (first % 1_000) as u32 + 1);
-    shown(x);
+    pair(rt, x, y)?;
+    quotient(rt, x, (second % 0xffff_ffff) as u32 + 1)?;
+    quotient(rt, y, (first % 1_000) as u32 + 1)?;
+    shown(rt, x)
 }
 
 fn random_divisor(word: u64) -> u64
@@ -306,15 +314,16 @@ fn wide_product(n: u32, m: u32) -> u64 {
 }
 
 // Numbers of full and of random length, then a quotient of 32 digits at most that leaves nothing.
-fn random_ratio(first: u64, second: u64) {
-    ratio(first, random_divisor(second));
+fn random_ratio(rt: &impl Print, first: u64, second: u64) -> io::Result<()> {
+    ratio(rt, first, random_divisor(second))?;
     ratio(
+        rt,
         first >> (second % 64),
         random_divisor(second >> (first % 64)),
-    );
+    )?;
     let odd = random_odd(first);
     let n = wide_product(odd, random_significand(second));
-    ratio(n, odd as u64 * 0x2000);
+    ratio(rt, n, odd as u64 * 0x2000)
 }
 
 #[derive(Clone, Copy)]
@@ -330,39 +339,40 @@ enum Family {
     RandomRatios,
 }
 
-fn case(family: Family, n: u32, word: u64) {
+fn case(rt: &impl Print, family: Family, n: u32, word: u64) -> io::Result<()> {
     match family {
-        Family::Integers => integer(edge_integer(n)),
-        Family::BasisPoints => basis_points(edge_basis_points(n)),
-        Family::ZeroPairs => zero_pair(n),
-        Family::EdgePairs => edge_pair(n),
-        Family::Quotients => edge_quotient(n),
-        Family::Shown => edge_shown(n),
-        Family::Random => random_case(word, next(word)),
-        Family::Ratios => edge_ratio(n),
-        Family::RandomRatios => random_ratio(word, next(word)),
+        Family::Integers => integer(rt, edge_integer(n)),
+        Family::BasisPoints => basis_points(rt, edge_basis_points(n)),
+        Family::ZeroPairs => zero_pair(rt, n),
+        Family::EdgePairs => edge_pair(rt, n),
+        Family::Quotients => edge_quotient(rt, n),
+        Family::Shown => edge_shown(rt, n),
+        Family::Random => random_case(rt, word, next(word)),
+        Family::Ratios => edge_ratio(rt, n),
+        Family::RandomRatios => random_ratio(rt, word, next(word)),
     }
 }
 
-fn cases(family: Family, count: u32) {
+fn cases(rt: &impl Print, family: Family, count: u32) -> io::Result<()> {
     let mut word: u64 = 0x9e37_79b9_7f4a_7c15;
     for n in 0..count {
-        case(family, n, word);
+        case(rt, family, n, word)?;
         word = next(next(word));
     }
+    Ok(())
 }
 
-fn main() {
-    constants();
-    cases(Family::Integers, 18);
-    cases(Family::BasisPoints, 15);
-    cases(Family::ZeroPairs, 8);
-    cases(Family::EdgePairs, 7 * 7 * 13);
-    far_pairs();
-    cases(Family::Quotients, 8 * 8);
-    shown(operand(0, 0));
-    cases(Family::Shown, 7 * 8);
-    cases(Family::Random, 250);
-    cases(Family::Ratios, 18 * 9);
-    cases(Family::RandomRatios, 100);
+fn main(rt: HostRuntime) -> io::Result<()> {
+    constants(&rt)?;
+    cases(&rt, Family::Integers, 18)?;
+    cases(&rt, Family::BasisPoints, 15)?;
+    cases(&rt, Family::ZeroPairs, 8)?;
+    cases(&rt, Family::EdgePairs, 7 * 7 * 13)?;
+    far_pairs(&rt)?;
+    cases(&rt, Family::Quotients, 8 * 8)?;
+    shown(&rt, operand(0, 0))?;
+    cases(&rt, Family::Shown, 7 * 8)?;
+    cases(&rt, Family::Random, 250)?;
+    cases(&rt, Family::Ratios, 18 * 9)?;
+    cases(&rt, Family::RandomRatios, 100)
 }

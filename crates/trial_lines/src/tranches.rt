@@ -1,6 +1,7 @@
 // The tranches of a loss call, made and written; its answer, and that of a layer call, written.
 use crate::write_refusal;
 use pool::{Answer, LayerAnswer, Loss, TRANCHES, Tranche};
+use std::io;
 use trial_support::{write, write_bits, write_field};
 
 // The record at each place of a loss call, in fields, since the borrow checker does not cover an enum that holds an array.
@@ -90,94 +91,97 @@ pub fn spread() -> Records {
 // ---- writing
 
 // The one tranche of a line.
-pub fn write_tranche(tranche: Tranche) {
-    write_field(tranche.recovery);
-    write(b" tranche");
-    write_field(tranche.lower);
-    write_field(tranche.upper);
+pub fn write_tranche(rt: &impl Print, tranche: Tranche) -> io::Result<()> {
+    write_field(rt, tranche.recovery)?;
+    write(rt, b" tranche")?;
+    write_field(rt, tranche.lower)?;
+    write_field(rt, tranche.upper)
 }
 
 // A record, after a word where it is the first that is not to be looked at.
-fn write_record(tranche: Tranche, first_unread: bool) {
+fn write_record(rt: &impl Print, tranche: Tranche, first_unread: bool) -> io::Result<()> {
     if first_unread {
-        write(b" unread");
+        write(rt, b" unread")?;
     }
-    write_field(tranche.recovery);
-    write_field(tranche.lower);
-    write_field(tranche.upper);
+    write_field(rt, tranche.recovery)?;
+    write_field(rt, tranche.lower)?;
+    write_field(rt, tranche.upper)
 }
 
 // The records within the count, and those past it.
-fn write_records(tranches: [Tranche; TRANCHES], count: u32) {
+fn write_records(rt: &impl Print, tranches: [Tranche; TRANCHES], count: u32) -> io::Result<()> {
     for i in 0..TRANCHES {
-        write_record(tranches[i], i as u32 == count);
+        write_record(rt, tranches[i], i as u32 == count)?;
     }
+    Ok(())
 }
 
-pub fn write_tranches(tranches: Tranches) {
-    write(b" count");
-    write_field(tranches.count);
-    write(b" tranches");
-    write_records(array_of(tranches.records), tranches.count);
+pub fn write_tranches(rt: &impl Print, tranches: Tranches) -> io::Result<()> {
+    write(rt, b" count")?;
+    write_field(rt, tranches.count)?;
+    write(rt, b" tranches")?;
+    write_records(rt, array_of(tranches.records), tranches.count)
 }
 
-fn write_loss(loss: Loss) {
+fn write_loss(rt: &impl Print, loss: Loss) -> io::Result<()> {
     match loss {
-        Loss::Untouched => write(b" untouched"),
+        Loss::Untouched => write(rt, b" untouched"),
         Loss::Faint(x) => {
-            write(b" faint ");
-            write_bits(x);
+            write(rt, b" faint ")?;
+            write_bits(rt, x)
         }
         Loss::Shown(bounds) => {
-            write(b" shown ");
-            write_bits(bounds.low);
-            write(b" ");
-            write_bits(bounds.high);
+            write(rt, b" shown ")?;
+            write_bits(rt, bounds.low)?;
+            write(rt, b" ")?;
+            write_bits(rt, bounds.high)
         }
     }
 }
 
 // Nothing where the loss is untouched, as it has to be past the count, and of a layer on a refusal.
-fn write_past(loss: Loss) {
+fn write_past(rt: &impl Print, loss: Loss) -> io::Result<()> {
     match loss {
-        Loss::Untouched => write(b""),
+        Loss::Untouched => Ok(()),
         _ => {
-            write(b" past");
-            write_loss(loss);
+            write(rt, b" past")?;
+            write_loss(rt, loss)
         }
     }
 }
 
-fn write_place(loss: Loss, within: bool) {
+fn write_place(rt: &impl Print, loss: Loss, within: bool) -> io::Result<()> {
     if within {
-        write_loss(loss);
+        write_loss(rt, loss)
     } else {
-        write_past(loss);
+        write_past(rt, loss)
     }
 }
 
-fn write_refused(refusal: u32) {
+fn write_refused(rt: &impl Print, refusal: u32) -> io::Result<()> {
     if refusal != 0 {
-        write_refusal(refusal);
+        write_refusal(rt, refusal)?;
     }
+    Ok(())
 }
 
 // The refusal, or the losses within the count.
-pub fn write_answer(answer: Answer, count: u32) {
+pub fn write_answer(rt: &impl Print, answer: Answer, count: u32) -> io::Result<()> {
     let refusal = answer.refusal;
-    write_refused(refusal);
+    write_refused(rt, refusal)?;
     let losses = answer.losses;
     for i in 0..TRANCHES {
         let place = losses[i];
         let loss = place.loss;
-        write_place(loss, (refusal == 0) & ((i as u32) < count));
+        write_place(rt, loss, (refusal == 0) & ((i as u32) < count))?;
     }
+    Ok(())
 }
 
 // The refusal, or the loss.
-pub fn write_layer(answer: LayerAnswer) {
+pub fn write_layer(rt: &impl Print, answer: LayerAnswer) -> io::Result<()> {
     let refusal = answer.refusal;
-    write_refused(refusal);
+    write_refused(rt, refusal)?;
     let loss = answer.loss;
-    write_place(loss, refusal == 0);
+    write_place(rt, loss, refusal == 0)
 }

@@ -7,6 +7,7 @@ ghost use Rattle.std.specs.Prelude.{◌≤◌, ◌<◌};
 
 use kept::{Kept, Side};
 use pool::{Loss, Pool, TRANCHES, Tranche, TrancheLoss};
+use std::io;
 use trial_support::{bits, magnitude, operand, write, write_field, write_number};
 use working::PLACES;
 
@@ -32,30 +33,31 @@ fn nearest(significand: u32, shift: u64, digits: u32) -> u64 {
     half(doubled >> shift)
 }
 
-fn write_percentage(n: u64, digits: u32) {
-    write(b" ");
+fn write_percentage(rt: &impl Print, n: u64, digits: u32) -> io::Result<()> {
+    write(rt, b" ")?;
     match digits {
-        2 => write_number(n / 100),
-        3 => write_number(n / 1_000),
-        _ => write_number(n / 10_000),
+        2 => write_number(rt, n / 100)?,
+        3 => write_number(rt, n / 1_000)?,
+        _ => write_number(rt, n / 10_000)?,
     }
-    write(b".");
+    write(rt, b".")?;
     if digits > 3 {
-        write_number(n / 1_000 % 10);
+        write_number(rt, n / 1_000 % 10)?;
     }
     if digits > 2 {
-        write_number(n / 100 % 10);
+        write_number(rt, n / 100 % 10)?;
     }
-    write_number(n / 10 % 10);
-    write_number(n % 10);
-    write(b"%");
+    write_number(rt, n / 10 % 10)?;
+    write_number(rt, n % 10)?;
+    write(rt, b"%")
 }
 
-fn write_kept(x: Kept, digits: u32) {
+fn write_kept(rt: &impl Print, x: Kept, digits: u32) -> io::Result<()> {
     write_percentage(
+        rt,
         nearest(x.significand, magnitude(x.exponent), digits),
         digits,
-    );
+    )
 }
 
 // The chances of 0 to n defaults on one side, at a default probability of 5 per cent.
@@ -69,20 +71,26 @@ fn chances_of(n: u32, correlation: u32, side: Side) -> [Kept; PLACES]
 }
 
 // Up to four defaults two digits are printed, then three.
-fn write_chance(j: usize, low: Kept, high: Kept) {
+fn write_chance(rt: &impl Print, j: usize, low: Kept, high: Kept) -> io::Result<()> {
     let digits = if j < 5 { 2 } else { 3 };
-    write_number(j as u64);
-    write_kept(low, digits);
-    write_kept(high, digits);
-    write(b"\n");
+    write_number(rt, j as u64)?;
+    write_kept(rt, low, digits)?;
+    write_kept(rt, high, digits)?;
+    write(rt, b"\n")
 }
 
-fn write_chances(low: [Kept; PLACES], high: [Kept; PLACES], count: usize)
+fn write_chances(
+    rt: &impl Print,
+    low: [Kept; PLACES],
+    high: [Kept; PLACES],
+    count: usize,
+) -> io::Result<()>
     requires { count ≤ 65 }
 {
     for j in 0..count {
-        write_chance(j, low[j], high[j]);
+        write_chance(rt, j, low[j], high[j])?;
     }
+    Ok(())
 }
 
 fn plus(x: Kept, y: Kept, side: Side) -> Kept {
@@ -106,35 +114,42 @@ fn shift_of(word: u64) -> u64 {
     if field < 1_054 { 1_054 - field } else { 0 }
 }
 
-fn write_f64(x: f64) {
+fn write_f64(rt: &impl Print, x: f64) -> io::Result<()> {
     let word = bits(x);
-    write_percentage(nearest(significand_of(word), shift_of(word), 4), 4);
+    write_percentage(rt, nearest(significand_of(word), shift_of(word), 4), 4)
 }
 
-fn write_heading(table: u64, assets: u32, correlation: u32) {
-    write(b"table ");
-    write_number(table);
-    write(b" assets");
-    write_field(assets);
-    write(b" correlation");
-    write_field(correlation);
+fn write_heading(rt: &impl Print, table: u64, assets: u32, correlation: u32) -> io::Result<()> {
+    write(rt, b"table ")?;
+    write_number(rt, table)?;
+    write(rt, b" assets")?;
+    write_field(rt, assets)?;
+    write(rt, b" correlation")?;
+    write_field(rt, correlation)
 }
 
 // The first chances of a column of Table 1 or 2. Table 1 has the chance that more than half default too.
-fn column(table: u64, assets: u32, correlation: u32, count: usize)
+fn column(
+    rt: &impl Print,
+    table: u64,
+    assets: u32,
+    correlation: u32,
+    count: usize,
+) -> io::Result<()>
     requires { (0 < assets) × ((assets ≤ 36) × ((correlation ≤ 10000) × (count ≤ 65))) }
 {
     let low = chances_of(assets, correlation, Side::Low);
     let high = chances_of(assets, correlation, Side::High);
-    write_heading(table, assets, correlation);
-    write(b"\n");
-    write_chances(low, high, count);
+    write_heading(rt, table, assets, correlation)?;
+    write(rt, b"\n")?;
+    write_chances(rt, low, high, count)?;
     if table == 1 {
-        write(b"more than half");
-        write_kept(more_than_half(low, Side::Low), 3);
-        write_kept(more_than_half(high, Side::High), 3);
-        write(b"\n");
+        write(rt, b"more than half")?;
+        write_kept(rt, more_than_half(low, Side::Low), 3)?;
+        write_kept(rt, more_than_half(high, Side::High), 3)?;
+        write(rt, b"\n")?;
     }
+    Ok(())
 }
 
 // A tranche of Table 4.
@@ -146,21 +161,28 @@ fn tranche_of(lower: u32, upper: u32) -> Tranche {
     }
 }
 
-fn write_loss(pool: Pool, tranche: Tranche, place: TrancheLoss) {
-    write_heading(4, pool.assets, pool.correlation);
-    write(b" tranche");
-    write_field(tranche.lower);
-    write_field(tranche.upper);
+fn write_loss(rt: &impl Print, pool: Pool, tranche: Tranche, place: TrancheLoss) -> io::Result<()> {
+    write_heading(rt, 4, pool.assets, pool.correlation)?;
+    write(rt, b" tranche")?;
+    write_field(rt, tranche.lower)?;
+    write_field(rt, tranche.upper)?;
     let loss = place.loss;
     if let Loss::Shown(bounds) = loss {
-        write_f64(bounds.low);
-        write_f64(bounds.high);
+        write_f64(rt, bounds.low)?;
+        write_f64(rt, bounds.high)?;
     }
-    write(b"\n");
+    write(rt, b"\n")
 }
 
 // The expected losses of two tranches of Table 4, one on top of the other, by one call.
-fn losses(assets: u32, probability: u32, correlation: u32, lower: u32, upper: u32) {
+fn losses(
+    rt: &impl Print,
+    assets: u32,
+    probability: u32,
+    correlation: u32,
+    lower: u32,
+    upper: u32,
+) -> io::Result<()> {
     let mut low_significands = [0u32; STORE];
     let mut high_significands = [0u32; STORE];
     let mut low_exponents = [0i32; STORE];
@@ -186,20 +208,20 @@ fn losses(assets: u32, probability: u32, correlation: u32, lower: u32, upper: u3
     );
     let answer = filled.answer;
     let losses = answer.losses;
-    write_loss(pool, senior, losses[0]);
-    write_loss(pool, junior, losses[1]);
+    write_loss(rt, pool, senior, losses[0])?;
+    write_loss(rt, pool, junior, losses[1])
 }
 
-fn main() {
-    column(1, 10, 0, 11);
-    column(1, 10, 250, 11);
-    column(1, 10, 500, 11);
-    column(2, 10, 0, 11);
-    column(2, 13, 250, 14);
+fn main(rt: HostRuntime) -> io::Result<()> {
+    column(&rt, 1, 10, 0, 11)?;
+    column(&rt, 1, 10, 250, 11)?;
+    column(&rt, 1, 10, 500, 11)?;
+    column(&rt, 2, 10, 0, 11)?;
+    column(&rt, 2, 13, 250, 14)?;
     // Table 2 does not print the chance that all 19 default.
-    column(2, 19, 500, 19);
-    losses(13, 500, 250, 1_500, 2_100);
-    losses(19, 500, 500, 1_500, 2_100);
-    losses(15, 1_000, 625, 1_750, 4_050);
-    losses(36, 1_000, 1_000, 1_750, 4_050);
+    column(&rt, 2, 19, 500, 19)?;
+    losses(&rt, 13, 500, 250, 1_500, 2_100)?;
+    losses(&rt, 19, 500, 500, 1_500, 2_100)?;
+    losses(&rt, 15, 1_000, 625, 1_750, 4_050)?;
+    losses(&rt, 36, 1_000, 1_000, 1_750, 4_050)
 }

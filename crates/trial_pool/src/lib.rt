@@ -4,6 +4,7 @@
 
 use column_check::Verdict;
 use pool::{Answer, Filled, FilledLosses, Pool, TRANCHES, Tranche};
+use std::io;
 use trial_lines::tranches::{Tranches, array_of, one, write_answer, write_layer};
 use trial_lines::{
     Call, LARGE_PLACES, LARGE_ROWS, Lengths, Library, PLACES, pool_of, write_column, write_given,
@@ -145,12 +146,13 @@ fn losses(
 }
 
 fn answer_fill(
+    rt: &impl Print,
     given: Given,
     low_significands: &mut [u32],
     high_significands: &mut [u32],
     low_exponents: &mut [i32],
     high_exponents: &mut [i32],
-) -> Filled {
+) -> io::Result<Filled> {
     let filled = pool::fill(
         given.pool,
         given.head,
@@ -159,17 +161,23 @@ fn answer_fill(
         low_exponents,
         high_exponents,
     );
-    write_refusal(filled.refusal);
-    filled
+    write_refusal(rt, filled.refusal)?;
+    Ok(filled)
 }
 
-fn answer_row(given: Given, k: u32, low_significands: &[u32]) -> Filled {
+fn answer_row(
+    rt: &impl Print,
+    given: Given,
+    k: u32,
+    low_significands: &[u32],
+) -> io::Result<Filled> {
     let n = given.pool.assets;
-    write_row(pool::row(n, k, low_significands));
-    no_store(given, pool::row_refusal(n, k, low_significands))
+    write_row(rt, pool::row(n, k, low_significands))?;
+    Ok(no_store(given, pool::row_refusal(n, k, low_significands)))
 }
 
 fn answer_column(
+    rt: &impl Print,
     library: Library,
     given: Given,
     length: usize,
@@ -177,7 +185,7 @@ fn answer_column(
     high_significands: &mut [u32],
     low_exponents: &mut [i32],
     high_exponents: &mut [i32],
-) -> Filled {
+) -> io::Result<Filled> {
     let mut units = [MARK; LARGE_ROWS];
     let filled = column(
         library,
@@ -188,18 +196,19 @@ fn answer_column(
         high_exponents,
         first_naturals(&mut units, length),
     );
-    write_column(given.pool, filled.refusal, &units, length);
-    filled
+    write_column(rt, given.pool, filled.refusal, &units, length)?;
+    Ok(filled)
 }
 
 fn answer_shifts(
+    rt: &impl Print,
     given: Given,
     length: usize,
     low_significands: &mut [u32],
     high_significands: &mut [u32],
     low_exponents: &mut [i32],
     high_exponents: &mut [i32],
-) -> Filled {
+) -> io::Result<Filled> {
     let mut shifts = [INTEGER_MARK; LARGE_ROWS];
     let filled = shift::shift_list(
         given.pool,
@@ -210,11 +219,12 @@ fn answer_shifts(
         high_exponents,
         first_integers(&mut shifts, length),
     );
-    write_shifts(given.pool, filled.refusal, &shifts, length);
-    filled
+    write_shifts(rt, given.pool, filled.refusal, &shifts, length)?;
+    Ok(filled)
 }
 
 fn answer_losses(
+    rt: &impl Print,
     library: Library,
     given: Given,
     tranches: Tranches,
@@ -222,7 +232,7 @@ fn answer_losses(
     high_significands: &mut [u32],
     low_exponents: &mut [i32],
     high_exponents: &mut [i32],
-) -> Filled {
+) -> io::Result<Filled> {
     let count = tranches.count;
     let filled = losses(
         library,
@@ -236,14 +246,15 @@ fn answer_losses(
     );
     let answer = filled.answer;
     let head = filled.head;
-    write_answer(answer, count);
-    Filled {
+    write_answer(rt, answer, count)?;
+    Ok(Filled {
         refusal: answer.refusal,
         head,
-    }
+    })
 }
 
 fn answer_layer(
+    rt: &impl Print,
     given: Given,
     i: u32,
     j: u32,
@@ -251,7 +262,7 @@ fn answer_layer(
     high_significands: &mut [u32],
     low_exponents: &mut [i32],
     high_exponents: &mut [i32],
-) -> Filled {
+) -> io::Result<Filled> {
     let filled = pool::layer_loss(
         given.pool,
         given.head,
@@ -264,11 +275,11 @@ fn answer_layer(
     );
     let answer = filled.answer;
     let head = filled.head;
-    write_layer(answer);
-    Filled {
+    write_layer(rt, answer)?;
+    Ok(Filled {
         refusal: answer.refusal,
         head,
-    }
+    })
 }
 
 fn refusal_of(verdict: Verdict) -> u32 {
@@ -279,13 +290,14 @@ fn refusal_of(verdict: Verdict) -> u32 {
 }
 
 fn answer_check(
+    rt: &impl Print,
     given: Given,
     claims: &[u32],
     low_significands: &mut [u32],
     high_significands: &mut [u32],
     low_exponents: &mut [i32],
     high_exponents: &mut [i32],
-) -> Filled {
+) -> io::Result<Filled> {
     let filled = column_check::check_column(
         given.pool,
         given.head,
@@ -297,24 +309,26 @@ fn answer_check(
     );
     let verdict = filled.verdict;
     let head = filled.head;
-    write_verdict(verdict, claims);
-    Filled {
+    write_verdict(rt, verdict, claims)?;
+    Ok(Filled {
         refusal: refusal_of(verdict),
         head,
-    }
+    })
 }
 
 // Makes a call for losses and writes what it answers.
 fn answer_loss(
+    rt: &impl Print,
     call: Call,
     given: Given,
     low_significands: &mut [u32],
     high_significands: &mut [u32],
     low_exponents: &mut [i32],
     high_exponents: &mut [i32],
-) -> Filled {
+) -> io::Result<Filled> {
     match call {
         Call::Loss(library, tranche) => answer_losses(
+            rt,
             library,
             given,
             one(tranche),
@@ -324,6 +338,7 @@ fn answer_loss(
             high_exponents,
         ),
         Call::Losses(library, tranches) => answer_losses(
+            rt,
             library,
             given,
             tranches,
@@ -333,6 +348,7 @@ fn answer_loss(
             high_exponents,
         ),
         Call::Layer(i, j) => answer_layer(
+            rt,
             given,
             i,
             j,
@@ -341,22 +357,24 @@ fn answer_loss(
             low_exponents,
             high_exponents,
         ),
-        _ => no_store(given, 0),
+        _ => Ok(no_store(given, 0)),
     }
 }
 
 // Makes a call that needs no claims and writes what it answers.
 fn answer_pool(
+    rt: &impl Print,
     call: Call,
     given: Given,
     low_significands: &mut [u32],
     high_significands: &mut [u32],
     low_exponents: &mut [i32],
     high_exponents: &mut [i32],
-) -> Filled {
+) -> io::Result<Filled> {
     match call {
-        Call::Row(k) => answer_row(given, k, low_significands),
+        Call::Row(k) => answer_row(rt, given, k, low_significands),
         Call::Column(library, length) => answer_column(
+            rt,
             library,
             given,
             length,
@@ -366,6 +384,7 @@ fn answer_pool(
             high_exponents,
         ),
         Call::Shifts(length) => answer_shifts(
+            rt,
             given,
             length,
             low_significands,
@@ -374,6 +393,7 @@ fn answer_pool(
             high_exponents,
         ),
         _ => answer_loss(
+            rt,
             call,
             given,
             low_significands,
@@ -386,6 +406,7 @@ fn answer_pool(
 
 // Makes a call and writes what it answers.
 fn answer(
+    rt: &impl Print,
     call: Call,
     given: Given,
     claims: &[u32],
@@ -393,9 +414,10 @@ fn answer(
     high_significands: &mut [u32],
     low_exponents: &mut [i32],
     high_exponents: &mut [i32],
-) -> Filled {
+) -> io::Result<Filled> {
     match call {
         Call::Fill => answer_fill(
+            rt,
             given,
             low_significands,
             high_significands,
@@ -403,6 +425,7 @@ fn answer(
             high_exponents,
         ),
         Call::Check => answer_check(
+            rt,
             given,
             claims,
             low_significands,
@@ -411,6 +434,7 @@ fn answer(
             high_exponents,
         ),
         _ => answer_pool(
+            rt,
             call,
             given,
             low_significands,
@@ -423,6 +447,7 @@ fn answer(
 
 // The same on the first places of arrays.
 pub fn answer_on(
+    rt: &impl Print,
     call: Call,
     given: Given,
     claims: &[u32],
@@ -431,8 +456,9 @@ pub fn answer_on(
     high_significands: &mut [u32],
     low_exponents: &mut [i32],
     high_exponents: &mut [i32],
-) -> Filled {
+) -> io::Result<Filled> {
     answer(
+        rt,
         call,
         given,
         claims,
@@ -445,7 +471,14 @@ pub fn answer_on(
 
 // Runs a call on arrays that hold another pool's store, and looks at the head that it hands back. A pool of no assets is refused,
 // and leaves the marks.
-fn run_on(other: Pool, call: Call, pool: Pool, claims: &[u32], lengths: Lengths) {
+fn run_on(
+    rt: &impl Print,
+    other: Pool,
+    call: Call,
+    pool: Pool,
+    claims: &[u32],
+    lengths: Lengths,
+) -> io::Result<()> {
     let mut low_significands = [MARK; LARGE_PLACES];
     let mut high_significands = [MARK; LARGE_PLACES];
     let mut low_exponents = [INTEGER_MARK; LARGE_PLACES];
@@ -458,9 +491,10 @@ fn run_on(other: Pool, call: Call, pool: Pool, claims: &[u32], lengths: Lengths)
         &mut low_exponents,
         &mut high_exponents,
     );
-    write_given(other, call, pool, lengths);
+    write_given(rt, other, call, pool, lengths)?;
     let given = with_marks(pool);
     let filled = answer_on(
+        rt,
         call,
         given,
         claims,
@@ -469,26 +503,33 @@ fn run_on(other: Pool, call: Call, pool: Pool, claims: &[u32], lengths: Lengths)
         &mut high_significands,
         &mut low_exponents,
         &mut high_exponents,
-    );
-    write_wrong_head(filled.head, head_after(given, filled.refusal));
+    )?;
+    write_wrong_head(rt, filled.head, head_after(given, filled.refusal))?;
     write_store(
+        rt,
         call,
         lengths,
         &low_significands,
         &high_significands,
         &low_exponents,
         &high_exponents,
-    );
+    )
 }
 
 // On the first places of marked arrays.
-pub fn run(call: Call, pool: Pool, lengths: Lengths) {
-    run_on(pool_of(0, 0, 0), call, pool, &[], lengths);
+pub fn run(rt: &impl Print, call: Call, pool: Pool, lengths: Lengths) -> io::Result<()> {
+    run_on(rt, pool_of(0, 0, 0), call, pool, &[], lengths)
 }
 
 // A check of claims, on the first places of arrays that hold another pool's store.
-pub fn run_check(other: Pool, pool: Pool, claims: &[u32], lengths: Lengths) {
-    run_on(other, Call::Check, pool, claims, lengths);
+pub fn run_check(
+    rt: &impl Print,
+    other: Pool,
+    pool: Pool,
+    claims: &[u32],
+    lengths: Lengths,
+) -> io::Result<()> {
+    run_on(rt, other, Call::Check, pool, claims, lengths)
 }
 
 pub fn beyond(call: Call) -> u32 {
@@ -515,27 +556,27 @@ fn ample(call: Call, pool: Pool) -> Lengths {
 }
 
 // On enough places of marked arrays.
-pub fn run_ample(call: Call, pool: Pool) {
-    run(call, pool, ample(call, pool));
+pub fn run_ample(rt: &impl Print, call: Call, pool: Pool) -> io::Result<()> {
+    run(rt, call, pool, ample(call, pool))
 }
 
 // On enough places of arrays that hold another pool's store.
-pub fn run_over(other: Pool, call: Call, pool: Pool) {
+pub fn run_over(rt: &impl Print, other: Pool, call: Call, pool: Pool) -> io::Result<()> {
     if other.assets > 64 {
-        run_on(other, call, pool, &[], whole());
+        run_on(rt, other, call, pool, &[], whole())
     } else {
-        run_on(other, call, pool, &[], ample(call, pool));
+        run_on(rt, other, call, pool, &[], ample(call, pool))
     }
 }
 
-fn write_filled(pool: Pool, k: u32, low_significands: &[u32]) {
-    write_given(pool, Call::Row(k), pool, whole());
-    write_row(pool::row(pool.assets, k, low_significands));
-    write(b"\n");
+fn write_filled(rt: &impl Print, pool: Pool, k: u32, low_significands: &[u32]) -> io::Result<()> {
+    write_given(rt, pool, Call::Row(k), pool, whole())?;
+    write_row(rt, pool::row(pool.assets, k, low_significands))?;
+    write(rt, b"\n")
 }
 
 // The first rows of the pool's own store.
-pub fn filled_rows(pool: Pool, count: u32) {
+pub fn filled_rows(rt: &impl Print, pool: Pool, count: u32) -> io::Result<()> {
     let mut low_significands = [MARK; LARGE_PLACES];
     let mut high_significands = [MARK; LARGE_PLACES];
     let mut low_exponents = [INTEGER_MARK; LARGE_PLACES];
@@ -549,8 +590,9 @@ pub fn filled_rows(pool: Pool, count: u32) {
         &mut high_exponents,
     );
     for k in 0..count {
-        write_filled(pool, k, &low_significands);
+        write_filled(rt, pool, k, &low_significands)?;
     }
+    Ok(())
 }
 
 // Each place holds its own number.
@@ -562,14 +604,14 @@ fn numbered() -> [u32; LARGE_PLACES] {
     places
 }
 
-pub fn row(n: u32, k: u32, length: usize) {
+pub fn row(rt: &impl Print, n: u32, k: u32, length: usize) -> io::Result<()> {
     let mut places = numbered();
-    write(b"row");
-    write_field(n);
-    write_field(k);
-    write(b" length");
-    write_length(length);
+    write(rt, b"row")?;
+    write_field(rt, n)?;
+    write_field(rt, k)?;
+    write(rt, b" length")?;
+    write_length(rt, length)?;
     let part = first_naturals(&mut places, length);
-    write_refusal(pool::row_refusal(n, k, part));
-    write_part(pool::row(n, k, part));
+    write_refusal(rt, pool::row_refusal(n, k, part))?;
+    write_part(rt, pool::row(n, k, part))
 }

@@ -2,8 +2,9 @@
 // out in exact whole numbers.
 #![tactic(auto)]
 
+use std::io;
 use trial_inputs::random::{Calls, random_cases};
 
-fn main() {
-    random_cases(300, Calls::Library);
+fn main(rt: HostRuntime) -> io::Result<()> {
+    random_cases(&rt, 300, Calls::Library)
 }

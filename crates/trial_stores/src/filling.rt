@@ -1,6 +1,7 @@
 // A call that fills the store, from standard input.
 use super::read_head;
 use pool::Pool;
+use std::io;
 use trial_inputs::given::{
     read_claims, read_length, read_lengths, read_library, read_pool, read_tranches,
 };
@@ -11,34 +12,35 @@ use trial_lines::{
 use trial_pool::{Given, answer_on};
 use trial_support::{read_number, write};
 
-fn read_call() -> Call {
-    let kind = read_number();
+fn read_call(rt: &impl Input) -> io::Result<Call> {
+    let kind = read_number(rt)?;
     if kind == 0 {
-        return Call::Fill;
+        return Ok(Call::Fill);
     }
     if kind == 1 {
-        let library = read_library();
-        let length = read_length();
-        return Call::Column(library, length);
+        let library = read_library(rt)?;
+        let length = read_length(rt)?;
+        return Ok(Call::Column(library, length));
     }
     if kind == 2 {
-        return Call::Shifts(read_length());
+        return Ok(Call::Shifts(read_length(rt)?));
     }
     if kind == 3 {
-        let library = read_library();
-        let tranches = read_tranches();
-        return Call::Losses(library, tranches);
+        let library = read_library(rt)?;
+        let tranches = read_tranches(rt)?;
+        return Ok(Call::Losses(library, tranches));
     }
     if kind == 4 {
-        let i = read_number();
-        let j = read_number();
-        return Call::Layer(i, j);
+        let i = read_number(rt)?;
+        let j = read_number(rt)?;
+        return Ok(Call::Layer(i, j));
     }
-    Call::Check
+    Ok(Call::Check)
 }
 
 // Makes the call, and gives the head that it hands back.
 fn fill(
+    rt: &impl Print,
     call: Call,
     given: Given,
     claims: &[u32],
@@ -47,12 +49,13 @@ fn fill(
     high_significands: &mut [u32; LARGE_PLACES],
     low_exponents: &mut [i32; LARGE_PLACES],
     high_exponents: &mut [i32; LARGE_PLACES],
-) -> Pool {
-    write(b"head");
-    write_pool(given.head);
-    write(b" ");
-    write_given(pool_of(0, 0, 0), call, given.pool, lengths);
+) -> io::Result<Pool> {
+    write(rt, b"head")?;
+    write_pool(rt, given.head)?;
+    write(rt, b" ")?;
+    write_given(rt, pool_of(0, 0, 0), call, given.pool, lengths)?;
     let filled = answer_on(
+        rt,
         call,
         given,
         claims,
@@ -61,36 +64,39 @@ fn fill(
         high_significands,
         low_exponents,
         high_exponents,
-    );
-    write_head(filled.head);
+    )?;
+    write_head(rt, filled.head)?;
     write_store(
+        rt,
         call,
         lengths,
         low_significands,
         high_significands,
         low_exponents,
         high_exponents,
-    );
-    filled.head
+    )?;
+    Ok(filled.head)
 }
 
 pub(crate) fn run_call(
+    rt: &(impl Input + Print),
     held: Pool,
     low_significands: &mut [u32; LARGE_PLACES],
     high_significands: &mut [u32; LARGE_PLACES],
     low_exponents: &mut [i32; LARGE_PLACES],
     high_exponents: &mut [i32; LARGE_PLACES],
-) -> Pool {
-    let head = read_head(held);
-    let call = read_call();
-    let pool = read_pool();
-    let lengths = read_lengths();
-    let count = read_length();
-    let claims = read_claims(count);
+) -> io::Result<Pool> {
+    let head = read_head(rt, held)?;
+    let call = read_call(rt)?;
+    let pool = read_pool(rt)?;
+    let lengths = read_lengths(rt)?;
+    let count = read_length(rt)?;
+    let claims = read_claims(rt, count)?;
     if count > LARGE_ROWS {
-        return held;
+        return Ok(held);
     }
     fill(
+        rt,
         call,
         Given { pool, head },
         &claims[0..count],

@@ -3,6 +3,7 @@ use super::read_head;
 use desk::{DeskRow, Request};
 use kept::Kept;
 use pool::Pool;
+use std::io;
 use trial_inputs::given::read_lengths;
 use trial_lines::{
     Call, Lengths, write_numbers, write_pool, write_refusal, write_store, write_store_lengths,
@@ -30,15 +31,15 @@ pub fn first_integers(places: &[i32], count: usize) -> &[i32] {
     }
 }
 
-fn read_request() -> Request {
-    let probability = read_number();
-    let correlation = read_number();
-    let row = read_number();
-    Request {
+fn read_request(rt: &impl Input) -> io::Result<Request> {
+    let probability = read_number(rt)?;
+    let correlation = read_number(rt)?;
+    let row = read_number(rt)?;
+    Ok(Request {
         probability,
         correlation,
         row,
-    }
+    })
 }
 
 // The kept numbers of a side, in two arrays.
@@ -64,19 +65,20 @@ fn parts_of(side: [Kept; PLACES]) -> Parts {
 }
 
 // The first entries of a side, by significands and exponents, and the checksum of all 101.
-fn write_side(side: [Kept; PLACES], count: usize) {
+fn write_side(rt: &impl Print, side: [Kept; PLACES], count: usize) -> io::Result<()> {
     let parts = parts_of(side);
     let significands = parts.significands;
     let exponents = parts.exponents;
     write_numbers(
+        rt,
         first_naturals(&significands, count),
         first_integers(&exponents, count),
-    );
-    write_checksum(&significands, &exponents);
+    )?;
+    write_checksum(rt, &significands, &exponents)
 }
 
-fn write_desk_row(answer: DeskRow, row: u32) {
-    write_refusal(answer.refusal);
+fn write_desk_row(rt: &impl Print, answer: DeskRow, row: u32) -> io::Result<()> {
+    write_refusal(rt, answer.refusal)?;
     let count = if (answer.refusal == 0) & (row <= SMALL) {
         row as usize + 1
     } else {
@@ -84,37 +86,44 @@ fn write_desk_row(answer: DeskRow, row: u32) {
     };
     let low = answer.low;
     let high = answer.high;
-    write(b" low");
-    write_side(low, count);
-    write(b" high");
-    write_side(high, count);
+    write(rt, b" low")?;
+    write_side(rt, low, count)?;
+    write(rt, b" high")?;
+    write_side(rt, high, count)
 }
 
-fn write_read(head: Pool, request: Request, ceiling: u32, lengths: Lengths) {
-    write(b"read");
-    write_pool(head);
-    write(b" expects");
-    write_field(request.probability);
-    write_field(request.correlation);
-    write(b" row");
-    write_field(request.row);
-    write(b" ceiling");
-    write_field(ceiling);
-    write_store_lengths(lengths);
+fn write_read(
+    rt: &impl Print,
+    head: Pool,
+    request: Request,
+    ceiling: u32,
+    lengths: Lengths,
+) -> io::Result<()> {
+    write(rt, b"read")?;
+    write_pool(rt, head)?;
+    write(rt, b" expects")?;
+    write_field(rt, request.probability)?;
+    write_field(rt, request.correlation)?;
+    write(rt, b" row")?;
+    write_field(rt, request.row)?;
+    write(rt, b" ceiling")?;
+    write_field(rt, ceiling)?;
+    write_store_lengths(rt, lengths)
 }
 
 pub(crate) fn run_read(
+    rt: &(impl Input + Print),
     held: Pool,
     low_significands: &[u32],
     high_significands: &[u32],
     low_exponents: &[i32],
     high_exponents: &[i32],
-) {
-    let head = read_head(held);
-    let request = read_request();
-    let ceiling = read_number();
-    let lengths = read_lengths();
-    write_read(head, request, ceiling, lengths);
+) -> io::Result<()> {
+    let head = read_head(rt, held)?;
+    let request = read_request(rt)?;
+    let ceiling = read_number(rt)?;
+    let lengths = read_lengths(rt)?;
+    write_read(rt, head, request, ceiling, lengths)?;
     let answer = desk::read(
         head,
         request,
@@ -124,13 +133,14 @@ pub(crate) fn run_read(
         first_integers(low_exponents, lengths.2),
         first_integers(high_exponents, lengths.3),
     );
-    write_desk_row(answer, request.row);
+    write_desk_row(rt, answer, request.row)?;
     write_store(
+        rt,
         Call::Fill,
         lengths,
         low_significands,
         high_significands,
         low_exponents,
         high_exponents,
-    );
+    )
 }

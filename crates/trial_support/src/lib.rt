@@ -5,26 +5,28 @@ ghost use Rattle.std.specs.Prelude.{◌≡◌, nat_abs};
 ghost use Rattle.kept.specs.Rounding.{Operand};
 
 use kept::Kept;
-use libc::{STDIN_FILENO, STDOUT_FILENO};
+use std::io;
+use std::io::Read;
 
 // One more than the digits of the largest u32.
 const BYTES: u32 = 11;
 
-pub fn write(text: &[u8]) {
-    io::write_all(STDOUT_FILENO, text);
+pub fn write(rt: &impl Print, text: &[u8]) -> io::Result<()> {
+    rt.write_all(text)
 }
 
-pub fn write_number(n: u64) {
-    io::print_decimal(STDOUT_FILENO, n);
+pub fn write_number(rt: &impl Print, n: u64) -> io::Result<()> {
+    rt.print(n)
 }
 
-pub fn write_field(n: u32) {
-    write(b" ");
-    write_number(n as u64);
+pub fn write_field(rt: &impl Print, n: u32) -> io::Result<()> {
+    write(rt, b" ")?;
+    write_number(rt, n as u64)
 }
 
-fn write_word(word: u64) {
-    io::print_hex(STDOUT_FILENO, word, 16);
+// As many hexadecimal digits as a word has, 16.
+pub fn write_word(rt: &impl Print, word: u64) -> io::Result<()> {
+    print!(rt; "{word:016x}")
 }
 
 pub fn magnitude(n: i32) -> u64
@@ -38,11 +40,8 @@ pub fn magnitude(n: i32) -> u64
     }
 }
 
-pub fn write_integer(n: i32) {
-    if n < 0 {
-        write(b"-");
-    }
-    write_number(magnitude(n));
+pub fn write_integer(rt: &impl Print, n: i32) -> io::Result<()> {
+    rt.print(n)
 }
 
 // The bits of an f64, or 0 where it is not a number.
@@ -50,31 +49,32 @@ pub fn bits(x: f64) -> u64 {
     if x == x { f64::to_bits(x) } else { 0 }
 }
 
-pub fn write_bits(x: f64) {
-    write_word(bits(x));
+pub fn write_bits(rt: &impl Print, x: f64) -> io::Result<()> {
+    write_word(rt, bits(x))
 }
 
 // The next byte, or a newline behind the last.
-fn read_byte() -> u8 {
+fn read_byte(input: &mut impl Read) -> io::Result<u8> {
     let mut byte = [b'\n'];
-    io::read_full(STDIN_FILENO, &mut byte);
-    byte[0]
+    let count = input.read(&mut byte)?;
+    Ok(if count == 0 { b'\n' } else { byte[0] })
 }
 
 // The number up to the next byte that is no digit.
-pub fn read_number() -> u32 {
+pub fn read_number(rt: &impl Input) -> io::Result<u32> {
+    let mut input = rt.reader();
     let mut number: u64 = 0;
     for _ in 0..BYTES {
-        let byte = read_byte();
+        let byte = read_byte(&mut input)?;
         if byte < b'0' {
-            return number as u32;
+            return Ok(number as u32);
         }
         if byte > b'9' {
-            return number as u32;
+            return Ok(number as u32);
         }
         number = (number * 10 + (byte - b'0') as u64) % 0x1_0000_0000;
     }
-    number as u32
+    Ok(number as u32)
 }
 
 // The kept number with this significand and this exponent, or zero where they make no operand.
@@ -122,7 +122,7 @@ fn checksum(naturals: &[u32], integers: &[i32]) -> u64 {
     sum
 }
 
-pub fn write_checksum(naturals: &[u32], integers: &[i32]) {
-    write(b" ");
-    write_word(checksum(naturals, integers));
+pub fn write_checksum(rt: &impl Print, naturals: &[u32], integers: &[i32]) -> io::Result<()> {
+    write(rt, b" ")?;
+    write_word(rt, checksum(naturals, integers))
 }

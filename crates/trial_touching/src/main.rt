@@ -4,21 +4,23 @@
 // out in exact whole numbers, and checks the sums of the losses that are printed.
 #![tactic(auto)]
 
+use std::io;
 use trial_inputs::given::{read_library, read_pool, read_tranches};
 use trial_lines::Call;
 use trial_pool::run_ample;
 use trial_support::read_number;
 
-fn run_case() {
-    let library = read_library();
-    let pool = read_pool();
-    let tranches = read_tranches();
-    run_ample(Call::Losses(library, tranches), pool);
+fn run_case(rt: &(impl Input + Print)) -> io::Result<()> {
+    let library = read_library(rt)?;
+    let pool = read_pool(rt)?;
+    let tranches = read_tranches(rt)?;
+    run_ample(rt, Call::Losses(library, tranches), pool)
 }
 
-fn main() {
-    let cases = read_number();
+fn main(rt: HostRuntime) -> io::Result<()> {
+    let cases = read_number(&rt)?;
     for _ in 0..cases {
-        run_case();
+        run_case(&rt)?;
     }
+    Ok(())
 }

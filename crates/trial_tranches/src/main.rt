@@ -6,6 +6,7 @@
 ghost use Rattle.std.specs.Prelude.{◌≤◌};
 
 use pool::{Pool, TRANCHES, Tranche};
+use std::io;
 use trial_inputs::edges::{exact_lengths, longer_lengths, over_others};
 use trial_inputs::random::{Calls, random_cases};
 use trial_lines::tranches::{
@@ -22,12 +23,23 @@ fn pool(assets: u32) -> Pool {
     pool_of(assets, 1_000, 3_000)
 }
 
-fn three(library: Library, count: u32, records: Records) {
-    run_ample(losses(library, count, records), pool(3));
+fn three(rt: &impl Print, library: Library, count: u32, records: Records) -> io::Result<()> {
+    run_ample(rt, losses(library, count, records), pool(3))
 }
 
-fn without_places(library: Library, count: u32, records: Records, pool: Pool) {
-    run(losses(library, count, records), pool, Lengths(0, 0, 0, 0));
+fn without_places(
+    rt: &impl Print,
+    library: Library,
+    count: u32,
+    records: Records,
+    pool: Pool,
+) -> io::Result<()> {
+    run(
+        rt,
+        losses(library, count, records),
+        pool,
+        Lengths(0, 0, 0, 0),
+    )
 }
 
 // For 64 assets, probability 1 and correlation 0: four losses around 2^−800, one far below it twice, one far above it, and 0.
@@ -59,157 +71,177 @@ fn by_6() -> Tranche {
 
 // ---- counts
 
-fn counts(library: Library) {
-    three(library, 0, spread());
-    three(library, 1, spread());
-    three(library, 2, spread());
-    three(library, 7, spread());
-    three(library, 8, spread());
-    three(library, 9, spread());
-    three(library, 0xffff_ffff, spread());
+fn counts(rt: &impl Print, library: Library) -> io::Result<()> {
+    three(rt, library, 0, spread())?;
+    three(rt, library, 1, spread())?;
+    three(rt, library, 2, spread())?;
+    three(rt, library, 7, spread())?;
+    three(rt, library, 8, spread())?;
+    three(rt, library, 9, spread())?;
+    three(rt, library, 0xffff_ffff, spread())
 }
 
 // ---- a ground at each place
 
-fn at_place(library: Library, count: u32, place: usize, tranche: Tranche) {
-    three(library, count, with(spread(), place, tranche));
+fn at_place(
+    rt: &impl Print,
+    library: Library,
+    count: u32,
+    place: usize,
+    tranche: Tranche,
+) -> io::Result<()> {
+    three(rt, library, count, with(spread(), place, tranche))
 }
 
-fn each_place(library: Library, count: u32, tranche: Tranche) {
+fn each_place(rt: &impl Print, library: Library, count: u32, tranche: Tranche) -> io::Result<()> {
     for place in 0..TRANCHES {
-        at_place(library, count, place, tranche);
+        at_place(rt, library, count, place, tranche)?;
     }
+    Ok(())
 }
 
 // Within the count, and past it.
-fn wrong_places(library: Library, tranche: Tranche) {
-    each_place(library, 1, tranche);
-    each_place(library, 4, tranche);
-    each_place(library, 8, tranche);
+fn wrong_places(rt: &impl Print, library: Library, tranche: Tranche) -> io::Result<()> {
+    each_place(rt, library, 1, tranche)?;
+    each_place(rt, library, 4, tranche)?;
+    each_place(rt, library, 8, tranche)
 }
 
 // Each ground on both sides of its edge.
-fn places(library: Library) {
-    wrong_places(library, by_4());
-    wrong_places(library, by_5());
-    wrong_places(library, by_6());
-    wrong_places(library, tranche_of(4_000, 3_001, 3_000));
-    each_place(library, 8, tranche_of(10_000, 0, 10_000));
-    each_place(library, 8, tranche_of(0, 9_999, 10_000));
-    each_place(library, 8, tranche_of(4_000, 2_999, 3_000));
+fn places(rt: &impl Print, library: Library) -> io::Result<()> {
+    wrong_places(rt, library, by_4())?;
+    wrong_places(rt, library, by_5())?;
+    wrong_places(rt, library, by_6())?;
+    wrong_places(rt, library, tranche_of(4_000, 3_001, 3_000))?;
+    each_place(rt, library, 8, tranche_of(10_000, 0, 10_000))?;
+    each_place(rt, library, 8, tranche_of(0, 9_999, 10_000))?;
+    each_place(rt, library, 8, tranche_of(4_000, 2_999, 3_000))
 }
 
 // ---- two grounds at once
 
-fn two_in_one(library: Library, place: usize) {
+fn two_in_one(rt: &impl Print, library: Library, place: usize) -> io::Result<()> {
     let most = 0xffff_ffff;
-    at_place(library, 8, place, tranche_of(10_001, 0, 10_001));
-    at_place(library, 8, place, tranche_of(10_001, 3_000, 3_000));
-    at_place(library, 8, place, tranche_of(4_000, 10_001, 10_001));
-    at_place(library, 8, place, refused_tranche());
-    at_place(library, 8, place, tranche_of(most, most, most));
+    at_place(rt, library, 8, place, tranche_of(10_001, 0, 10_001))?;
+    at_place(rt, library, 8, place, tranche_of(10_001, 3_000, 3_000))?;
+    at_place(rt, library, 8, place, tranche_of(4_000, 10_001, 10_001))?;
+    at_place(rt, library, 8, place, refused_tranche())?;
+    at_place(rt, library, 8, place, tranche_of(most, most, most))
 }
 
 // One tranche, and another behind it by each ground.
-fn before_each(library: Library, tranche: Tranche, first: usize, second: usize) {
+fn before_each(
+    rt: &impl Print,
+    library: Library,
+    tranche: Tranche,
+    first: usize,
+    second: usize,
+) -> io::Result<()> {
     let records = with(spread(), first, tranche);
-    three(library, 8, with(records, second, by_4()));
-    three(library, 8, with(records, second, by_5()));
-    three(library, 8, with(records, second, by_6()));
+    three(rt, library, 8, with(records, second, by_4()))?;
+    three(rt, library, 8, with(records, second, by_5()))?;
+    three(rt, library, 8, with(records, second, by_6()))
 }
 
-fn two_places(library: Library, first: usize, second: usize) {
-    before_each(library, by_4(), first, second);
-    before_each(library, by_5(), first, second);
-    before_each(library, by_6(), first, second);
+fn two_places(rt: &impl Print, library: Library, first: usize, second: usize) -> io::Result<()> {
+    before_each(rt, library, by_4(), first, second)?;
+    before_each(rt, library, by_5(), first, second)?;
+    before_each(rt, library, by_6(), first, second)
 }
 
-fn two_wrong(library: Library) {
-    two_in_one(library, 0);
-    two_in_one(library, 3);
-    two_in_one(library, 7);
-    two_places(library, 0, 1);
-    two_places(library, 2, 5);
-    two_places(library, 6, 7);
+fn two_wrong(rt: &impl Print, library: Library) -> io::Result<()> {
+    two_in_one(rt, library, 0)?;
+    two_in_one(rt, library, 3)?;
+    two_in_one(rt, library, 7)?;
+    two_places(rt, library, 0, 1)?;
+    two_places(rt, library, 2, 5)?;
+    two_places(rt, library, 6, 7)
 }
 
 // ---- the order of the grounds
 
 // The count wrong, then also every tranche, and no places; every tranche wrong and no places; no places, also with a wrong count.
-fn order_in(library: Library, pool: Pool) {
+fn order_in(rt: &impl Print, library: Library, pool: Pool) -> io::Result<()> {
     let refused = repeated(refused_tranche());
-    run_ample(losses(library, 0, spread()), pool);
-    run_ample(losses(library, 9, spread()), pool);
-    without_places(library, 0, refused, pool);
-    without_places(library, 9, refused, pool);
-    without_places(library, 1, refused, pool);
-    without_places(library, 9, spread(), pool);
-    without_places(library, 8, spread(), pool);
+    run_ample(rt, losses(library, 0, spread()), pool)?;
+    run_ample(rt, losses(library, 9, spread()), pool)?;
+    without_places(rt, library, 0, refused, pool)?;
+    without_places(rt, library, 9, refused, pool)?;
+    without_places(rt, library, 1, refused, pool)?;
+    without_places(rt, library, 9, spread(), pool)?;
+    without_places(rt, library, 8, spread(), pool)
 }
 
 // A tranche that one ground refuses, with a count that 13 refuses, and with no places.
-fn order_of(library: Library, tranche: Tranche) {
-    at_place(library, 0, 0, tranche);
-    at_place(library, 9, 0, tranche);
-    without_places(library, 8, with(spread(), 7, tranche), pool(3));
+fn order_of(rt: &impl Print, library: Library, tranche: Tranche) -> io::Result<()> {
+    at_place(rt, library, 0, 0, tranche)?;
+    at_place(rt, library, 9, 0, tranche)?;
+    without_places(rt, library, 8, with(spread(), 7, tranche), pool(3))
 }
 
-fn order(library: Library) {
-    order_in(library, pool(0));
-    order_in(library, pool(101));
-    order_in(library, pool(21));
-    order_in(library, pool_of(64, 1_000, 10_000));
-    order_in(library, pool_of(3, 10_001, 3_000));
-    order_in(library, pool_of(3, 1_000, 10_001));
-    order_in(library, pool_of(3, 1_000, 10_000));
-    order_in(library, pool_of(0, 10_001, 10_001));
-    order_in(library, pool(3));
-    order_of(library, by_4());
-    order_of(library, by_5());
-    order_of(library, by_6());
+fn order(rt: &impl Print, library: Library) -> io::Result<()> {
+    order_in(rt, library, pool(0))?;
+    order_in(rt, library, pool(101))?;
+    order_in(rt, library, pool(21))?;
+    order_in(rt, library, pool_of(64, 1_000, 10_000))?;
+    order_in(rt, library, pool_of(3, 10_001, 3_000))?;
+    order_in(rt, library, pool_of(3, 1_000, 10_001))?;
+    order_in(rt, library, pool_of(3, 1_000, 10_000))?;
+    order_in(rt, library, pool_of(0, 10_001, 10_001))?;
+    order_in(rt, library, pool(3))?;
+    order_of(rt, library, by_4())?;
+    order_of(rt, library, by_5())?;
+    order_of(rt, library, by_6())
 }
 
 // ---- lengths of the store
 
 // Also on the stores of other pools, which a refusal leaves.
-fn lengths(library: Library, assets: u32, exact: usize, short: usize)
+fn lengths(
+    rt: &impl Print,
+    library: Library,
+    assets: u32,
+    exact: usize,
+    short: usize,
+) -> io::Result<()>
     requires { exact ≤ 5151 }
 {
     let call = losses(library, 8, spread());
     let other = pool_of(10, 500, 250);
-    exact_lengths(call, pool(assets), exact, short);
-    longer_lengths(call, pool(assets), exact);
-    over_others(call, pool(assets));
-    run_over(other, losses(library, 9, spread()), pool(assets));
+    exact_lengths(rt, call, pool(assets), exact, short)?;
+    longer_lengths(rt, call, pool(assets), exact)?;
+    over_others(rt, call, pool(assets))?;
+    run_over(rt, other, losses(library, 9, spread()), pool(assets))?;
     run_over(
+        rt,
         other,
         losses(library, 8, with(spread(), 7, by_6())),
         pool(assets),
-    );
+    )
 }
 
 // ---- pools and orders
 
-fn pools(library: Library, assets: u32) {
+fn pools(rt: &impl Print, library: Library, assets: u32) -> io::Result<()> {
     let call = losses(library, 8, spread());
-    run_ample(call, pool(assets));
-    run_ample(call, pool_of(assets, 0, 0));
-    run_ample(call, pool_of(assets, 0, 10_000));
-    run_ample(call, pool_of(assets, 1, 1));
-    run_ample(call, pool_of(assets, 5_000, 0));
-    run_ample(call, pool_of(assets, 5_000, 10_000));
-    run_ample(call, pool_of(assets, 10_000, 1));
-    run_ample(call, pool_of(assets, 10_000, 10_000));
-    run_ample(losses(library, 8, faint()), pool_of(assets, 1, 0));
-    run_ample(losses(library, 8, faint()), pool(assets));
+    run_ample(rt, call, pool(assets))?;
+    run_ample(rt, call, pool_of(assets, 0, 0))?;
+    run_ample(rt, call, pool_of(assets, 0, 10_000))?;
+    run_ample(rt, call, pool_of(assets, 1, 1))?;
+    run_ample(rt, call, pool_of(assets, 5_000, 0))?;
+    run_ample(rt, call, pool_of(assets, 5_000, 10_000))?;
+    run_ample(rt, call, pool_of(assets, 10_000, 1))?;
+    run_ample(rt, call, pool_of(assets, 10_000, 10_000))?;
+    run_ample(rt, losses(library, 8, faint()), pool_of(assets, 1, 0))?;
+    run_ample(rt, losses(library, 8, faint()), pool(assets))
 }
 
-fn all_pools(library: Library) {
-    pools(library, 1);
-    pools(library, 3);
-    pools(library, 20);
-    pools(library, 21);
-    pools(library, 64);
+fn all_pools(rt: &impl Print, library: Library) -> io::Result<()> {
+    pools(rt, library, 1)?;
+    pools(rt, library, 3)?;
+    pools(rt, library, 20)?;
+    pools(rt, library, 21)?;
+    pools(rt, library, 64)
 }
 
 fn reversed(records: Records) -> Records {
@@ -227,53 +259,54 @@ fn rotated(records: Records) -> Records {
 }
 
 // The same tranches in three orders; then one of them at every place.
-fn orders(library: Library, records: Records, pool: Pool) {
-    run_ample(losses(library, 8, records), pool);
-    run_ample(losses(library, 8, reversed(records)), pool);
-    run_ample(losses(library, 8, rotated(records)), pool);
-    run_ample(losses(library, 8, repeated(records.0)), pool);
+fn orders(rt: &impl Print, library: Library, records: Records, pool: Pool) -> io::Result<()> {
+    run_ample(rt, losses(library, 8, records), pool)?;
+    run_ample(rt, losses(library, 8, reversed(records)), pool)?;
+    run_ample(rt, losses(library, 8, rotated(records)), pool)?;
+    run_ample(rt, losses(library, 8, repeated(records.0)), pool)
 }
 
-fn all_orders(library: Library) {
-    orders(library, spread(), pool(3));
-    orders(library, spread(), pool_of(20, 500, 1_000));
-    orders(library, faint(), pool_of(64, 1, 0));
+fn all_orders(rt: &impl Print, library: Library) -> io::Result<()> {
+    orders(rt, library, spread(), pool(3))?;
+    orders(rt, library, spread(), pool_of(20, 500, 1_000))?;
+    orders(rt, library, faint(), pool_of(64, 1, 0))
 }
 
 // ---- records past the count
 
 // Each count twice, the second time with records past it that would be refused.
-fn past(library: Library) {
+fn past(rt: &impl Print, library: Library) -> io::Result<()> {
     let refused = refused_tranche();
     let mut records = spread();
     for i in 1..TRANCHES {
         let count = TRANCHES - i;
         records = with(records, count, refused);
-        three(library, count as u32, spread());
-        three(library, count as u32, records);
+        three(rt, library, count as u32, spread())?;
+        three(rt, library, count as u32, records)?;
     }
+    Ok(())
 }
 
-fn cases(library: Library) {
-    counts(library);
-    places(library);
-    two_wrong(library);
-    order(library);
-    all_pools(library);
-    all_orders(library);
-    past(library);
+fn cases(rt: &impl Print, library: Library) -> io::Result<()> {
+    counts(rt, library)?;
+    places(rt, library)?;
+    two_wrong(rt, library)?;
+    order(rt, library)?;
+    all_pools(rt, library)?;
+    all_orders(rt, library)?;
+    past(rt, library)
 }
 
-fn main() {
-    cases(Library::Pool);
-    cases(Library::Screen);
-    cases(Library::BetaBinomial);
-    lengths(Library::Pool, 1, 3, 2);
-    lengths(Library::Pool, 3, 10, 9);
-    lengths(Library::Pool, 20, 231, 230);
-    lengths(Library::Pool, 64, 2_145, 2_144);
-    lengths(Library::Screen, 1, 3, 2);
-    lengths(Library::Screen, 20, 231, 230);
-    lengths(Library::Screen, 21, 253, 252);
-    random_cases(150, Calls::Losses);
+fn main(rt: HostRuntime) -> io::Result<()> {
+    cases(&rt, Library::Pool)?;
+    cases(&rt, Library::Screen)?;
+    cases(&rt, Library::BetaBinomial)?;
+    lengths(&rt, Library::Pool, 1, 3, 2)?;
+    lengths(&rt, Library::Pool, 3, 10, 9)?;
+    lengths(&rt, Library::Pool, 20, 231, 230)?;
+    lengths(&rt, Library::Pool, 64, 2_145, 2_144)?;
+    lengths(&rt, Library::Screen, 1, 3, 2)?;
+    lengths(&rt, Library::Screen, 20, 231, 230)?;
+    lengths(&rt, Library::Screen, 21, 253, 252)?;
+    random_cases(&rt, 150, Calls::Losses)
 }

@@ -3,7 +3,7 @@ use Rattle.std.proofs.Common.{sym, ◌∙◌}
 use Rattle.model.specs.ClosedForm.{defaults_by}
 use Rattle.model.specs.BetaBinomial.{beta_defaults}
 use Rattle.steps.specs.BetaBinomial.{kept_beta_defaults}
-use Rattle.steps.specs.BetaBinomial.Theorems.{beta_column_lem}
+use Rattle.steps.proofs.BetaBinomial.Theorems.{beta_column_lem}
 use Rattle.steps.specs.Inputs.{largest_pool}
 use Rattle.grounds.specs.Grounds.Laws.{beta_column_accepted}
 use Rattle.pool.specs.Calls.Laws.{row_untouched, row_printed}

@@ -5,7 +5,7 @@ use Rattle.grounds.specs.Grounds.Laws.{loss_accepted}
 use Rattle.model.specs.CorrelatedBinomial.{defaults}
 use Rattle.steps.specs.declared.Tranche.{Tranche}
 use Rattle.steps.specs.CorrelatedBinomial.{kept_defaults}
-use Rattle.steps.specs.CorrelatedBinomial.Theorems.{pool_budgets, answers}
+use Rattle.steps.proofs.CorrelatedBinomial.Theorems.{pool_budgets, answers}
 use Rattle.steps.specs.Inputs.{largest_pool}
 use Rattle.store.specs.Stores.{store, lengths}
 use Rattle.store.specs.Calls.Laws.{fills_filled}

@@ -4,7 +4,7 @@ use Rattle.grounds.specs.Grounds.{first_ground, column_grounds, four_lengths, En
 use Rattle.grounds.specs.Grounds.Laws.{entries_accepted}
 use Rattle.model.specs.CorrelatedBinomial.{defaults}
 use Rattle.steps.specs.CorrelatedBinomial.{kept_defaults}
-use Rattle.steps.specs.CorrelatedBinomial.Theorems.{column}
+use Rattle.steps.proofs.CorrelatedBinomial.Theorems.{column}
 use Rattle.steps.specs.Inputs.{largest_pool}
 use Rattle.store.specs.Stores.{store, lengths}
 use Rattle.store.specs.Calls.Laws.{fills_filled}
