@@ -10,7 +10,7 @@ from kept import value
 from pools import beta_steps, chance_units, first_to_fail, layer, loss, printed_rows, printed_tails, shifts, steps, summed_counts
 from pools import tails
 
-SPECS = Path(__file__).parent.parent / "crates/steps/specs"
+SPECS = Path(__file__).parent.parent / "crates/steps/proofs"
 CASES = "".join((SPECS / file).read_text() for file in ("Cases.antt", "Tranches/Cases.antt", "BetaBinomial/Cases.antt"))
 # Where three touching tranches start and end.
 CUT = [0, 1000, 3000, 10000]

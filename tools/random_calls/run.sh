@@ -5,11 +5,11 @@
 #     sh tools/random_calls/run.sh 100000 1
 set -eu
 cd "$(dirname "$0")/../.."
-rt staticlib trial_exports
+(cd crates/trial_exports && rt lib)
 mkdir -p target/random_calls
 for program in calls speed; do
     g++ -std=c++17 -O3 -Wall -Wextra -o "target/random_calls/$program" "tools/random_calls/$program.cpp" \
-        target/staticlib/libtrial_exports.a -lgmpxx -lgmp
+        crates/trial_exports/out/libtrial_exports.a -lgmpxx -lgmp
 done
 target/random_calls/calls "${1:-100000}" "${2:-1}"
 target/random_calls/speed

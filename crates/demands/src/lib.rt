@@ -35,12 +35,14 @@ pub fn fill(
     )
 }
 
+#[tactic(auto, unfolding(store::specs::Calls::row_refusal, steps::specs::Inputs::largest_pool), using(pool::specs::Demands::Theorems::row_meets))]
 pub fn row(n: u32, k: u32, significands: &[u32]) -> &[u32]
     ensures { (refusal : ℕ) → refusal ≡ first_ground (row_grounds 100 n k (length significands.now)) → RowDemands n k significands.now result.now refusal }
 {
     pool::row(n, k, significands)
 }
 
+#[tactic(auto, unfolding(store::specs::Calls::row_refusal, steps::specs::Inputs::largest_pool))]
 pub fn row_refusal(n: u32, k: u32, significands: &[u32]) -> u32
     ensures { result ≡ first_ground (row_grounds 100 n k (length significands.now)) }
 {

@@ -20,6 +20,7 @@ pub struct Lengths {
 }
 
 // The first of two refusals.
+#[tactic(auto, unfolding(crate::specs::Grounds::first_of), using(crate::specs::Grounds::Laws::first_some))]
 pub fn first(a: u32, b: u32) -> u32
     ensures { result ≡ first_of a b }
 {
@@ -33,12 +34,14 @@ pub fn ground(number: u32, applies: bool) -> u32
     if applies { number } else { 0 }
 }
 
+#[tactic(auto, unfolding(crate::specs::Grounds::first_ground, crate::specs::Grounds::assets_ground), using(crate::specs::Grounds::Laws::first_last))]
 pub fn assets_refusal(most: u32, n: u32) -> u32
     ensures { result ≡ first_ground (assets_ground most n ∷ []) }
 {
     ground(1, (n == 0) | (n > most))
 }
 
+#[tactic(auto, unfolding(crate::specs::Grounds::first_ground, crate::specs::Grounds::pool_grounds, crate::specs::Grounds::assets_ground, crate::specs::Grounds::probability_ground, crate::specs::Grounds::correlation_ground, model::specs::Fraction::whole), using(crate::specs::Grounds::Laws::first_last))]
 pub fn pool_refusal(most: u32, n: u32, p: u32, rho: u32) -> u32
     ensures { result ≡ first_ground (pool_grounds most n p rho) }
 {
@@ -48,6 +51,7 @@ pub fn pool_refusal(most: u32, n: u32, p: u32, rho: u32) -> u32
     )
 }
 
+#[tactic(auto, unfolding(crate::specs::Grounds::first_ground, crate::specs::Grounds::tranche_grounds, crate::specs::Grounds::recovery_ground, crate::specs::Grounds::upper_ground, crate::specs::Grounds::attachments_ground, model::specs::Fraction::whole), using(crate::specs::Grounds::Laws::first_last))]
 fn tranche_refusal(recovery: u32, lower: u32, upper: u32) -> u32
     ensures { result ≡ first_ground (tranche_grounds recovery lower upper) }
 {
@@ -58,6 +62,7 @@ fn tranche_refusal(recovery: u32, lower: u32, upper: u32) -> u32
 }
 
 // Where row k of a store starts: the places of the rows before it. The product fits a word for every k.
+#[tactic(auto, using(model::specs::Number::Laws::triangle_closed))]
 pub fn row_start(k: u32) -> usize
     ensures { result ≡ triangle k }
 {
@@ -66,12 +71,14 @@ pub fn row_start(k: u32) -> usize
 }
 
 // The places of rows 0 to n.
+#[tactic(auto, using(crate::specs::Grounds::Laws::start_word, crate::specs::Grounds::Laws::store_places_lem, model::specs::Number::Laws::triangle_closed))]
 pub fn store_places(n: u32) -> usize
     ensures { result ≡ store_places n }
 {
     row_start(n) + n as usize + 1
 }
 
+#[tactic(auto, unfolding(crate::specs::Grounds::first_ground, crate::specs::Grounds::store_ground, crate::specs::Grounds::four_lengths, crate::specs::Grounds::some_shorter), using(crate::specs::Grounds::Laws::first_last))]
 pub fn store_refusal(n: u32, lengths: Lengths) -> u32
     ensures { result ≡ first_ground (store_ground n (four_lengths lengths) ∷ []) }
 {
@@ -82,6 +89,7 @@ pub fn store_refusal(n: u32, lengths: Lengths) -> u32
 }
 
 // That of a slice which has so many places for entries 0 to n.
+#[tactic(auto, unfolding(crate::specs::Grounds::first_ground, crate::specs::Grounds::entries_ground), using(crate::specs::Grounds::Laws::first_last))]
 pub fn slice_refusal(number: u32, n: u32, places: usize) -> u32
     ensures { result ≡ first_ground (entries_ground number n places ∷ []) }
 {
@@ -104,6 +112,7 @@ fn each_tranche_refusal(tranches: [Tranche; TRANCHES], count: u32) -> u32
 }
 
 // 13, and 4 to 6 of each tranche within the count.
+#[tactic(auto, unfolding(crate::specs::Grounds::first_ground, crate::specs::Grounds::count_ground, crate::specs::Grounds::counted_grounds, steps::specs::Tranches::tranche_places), using(crate::specs::Grounds::Laws::first_last))]
 pub fn tranches_refusal(tranches: [Tranche; TRANCHES], count: u32) -> u32
     ensures { result ≡ first_ground (counted_grounds tranches count) }
 {

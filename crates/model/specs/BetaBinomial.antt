@@ -9,8 +9,6 @@ use Rattle.model.specs.Number.Laws.{product_positive}
 use Rattle.model.specs.Fraction.{Fraction, whole, complement}
 use Rattle.model.specs.Chances.{Chances, in_any_order}
 use Rattle.model.specs.ClosedForm.{Correlation, probability_by, defaults_by}
-pub mod Cases
-pub mod Theorems
 
 -- The correlation after i defaults: ρ / (1 + iρ).
 unfoldable pub beta_correlation : (ρ : ℕ) → Correlation

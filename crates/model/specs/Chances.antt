@@ -5,7 +5,6 @@ use Rattle.std.specs.Prelude.{ℕ, suc, ◌+◌, ◌*◌, ◌-◌, ◌≤◌, �
 use Rattle.std.proofs.Common.{mul-pos, arith}
 use Rattle.model.specs.Number.{sum, sum_between, choose, cut, raise}
 use Rattle.model.specs.Fraction.{Fraction, Same, divided, whole}
-pub mod Laws
 
 pub record Chances : Type 0 where
   -- n

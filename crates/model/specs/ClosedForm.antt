@@ -8,7 +8,6 @@ use Rattle.model.specs.Number.{product, product_between, alternating_sum, raise}
 use Rattle.model.specs.Number.Laws.{product_positive}
 use Rattle.model.specs.Fraction.{Fraction, whole}
 use Rattle.model.specs.Chances.{Chances, in_any_order}
-pub mod Laws
 
 -- ρ_i, the correlation of two assets given that i others have defaulted: num i over den i.
 pub record Correlation : Type 0 where

@@ -1,7 +1,6 @@
 -- The passes over a row of entries, for entries of any kind.
 -- Assumes nothing.
 use Rattle.std.specs.Prelude.{ℕ, zero, suc, ◌-◌, cond, ltb}
-pub mod Laws
 
 module _ {A : Type 0} (step : A → A → A) where
   -- One pass over entries 0 to m − 1: entry j becomes `step` of old entry j and old entry j + 1. The others stay.

@@ -2,7 +2,6 @@
 -- Assumes nothing.
 use Rattle.std.specs.Prelude.{ℕ, suc, ◌*◌, ◌-◌, ◌<◌, ◌≡◌}
 use Rattle.model.specs.Fraction.{Fraction, integer, times, fraction_sum, whole, complement, over}
-pub mod Laws
 
 -- Tranches 0 to m − 1, of which the i-th is from A i to B i with the recovery R i, touch from 0 to 10,000 with one recovery: there is a first one, and its A is 0; each B
 -- is the next A; the last B is 10,000; every R is that of the first.

@@ -15,6 +15,7 @@ use model::WHOLE;
 use steps::{TRANCHES, Tranche};
 
 // 1 and 11: what the quote screen, which has a limit of its own, checks first.
+#[tactic(auto, unfolding(grounds::specs::Grounds::first_ground, grounds::specs::Grounds::assets_ground, grounds::specs::Grounds::screen_ground), using(grounds::specs::Grounds::Laws::first_last))]
 pub fn screen_refusal(most: u32, limit: u32, n: u32) -> u32
     ensures { result ≡ first_ground (assets_ground most n ∷ screen_ground limit n ∷ []) }
 {
@@ -23,12 +24,14 @@ pub fn screen_refusal(most: u32, limit: u32, n: u32) -> u32
     first(of_assets, of_screen)
 }
 
+#[tactic(auto, unfolding(grounds::specs::Grounds::fill_grounds), using(grounds::specs::Grounds::Laws::first_of_both))]
 pub fn fill_refusal(most: u32, n: u32, p: u32, rho: u32, lengths: Lengths) -> u32
     ensures { result ≡ first_ground (fill_grounds most n p rho (four_lengths lengths)) }
 {
     first(pool_refusal(most, n, p, rho), store_refusal(n, lengths))
 }
 
+#[tactic(auto, unfolding(grounds::specs::Grounds::first_ground, grounds::specs::Grounds::row_grounds, grounds::specs::Grounds::assets_ground, grounds::specs::Grounds::store_ground, grounds::specs::Grounds::row_ground, grounds::specs::Grounds::some_shorter), using(grounds::specs::Grounds::Laws::first_last))]
 pub fn row_refusal(most: u32, n: u32, k: u32, length: usize) -> u32
     ensures { result ≡ first_ground (row_grounds most n k length) }
 {
@@ -39,6 +42,7 @@ pub fn row_refusal(most: u32, n: u32, k: u32, length: usize) -> u32
 }
 
 // 1 to 3 and 7, then that of a slice beside the store.
+#[tactic(auto, unfolding(grounds::specs::Grounds::entries_grounds), using(grounds::specs::Grounds::Laws::first_of_both))]
 fn entries_refusal(
     number: u32,
     most: u32,
@@ -55,18 +59,21 @@ fn entries_refusal(
     first(of_fill, of_entries)
 }
 
+#[tactic(auto, unfolding(grounds::specs::Grounds::column_grounds))]
 pub fn column_refusal(most: u32, n: u32, p: u32, rho: u32, lengths: Lengths, units: usize) -> u32
     ensures { result ≡ first_ground (column_grounds most n p rho (four_lengths lengths) units) }
 {
     entries_refusal(8, most, n, p, rho, lengths, units)
 }
 
+#[tactic(auto, unfolding(grounds::specs::Grounds::shift_grounds))]
 pub fn shift_refusal(most: u32, n: u32, p: u32, rho: u32, lengths: Lengths, shifts: usize) -> u32
     ensures { result ≡ first_ground (shift_grounds most n p rho (four_lengths lengths) shifts) }
 {
     entries_refusal(10, most, n, p, rho, lengths, shifts)
 }
 
+#[tactic(auto, unfolding(grounds::specs::Grounds::loss_grounds), using(grounds::specs::Grounds::Laws::first_of_both))]
 pub fn loss_refusal(
     most: u32,
     n: u32,
@@ -84,6 +91,7 @@ pub fn loss_refusal(
     first(of_pool, first(of_tranches, of_store))
 }
 
+#[tactic(auto, unfolding(grounds::specs::Grounds::first_ground, grounds::specs::Grounds::layer_ground, grounds::specs::Grounds::layer_grounds), using(grounds::specs::Grounds::Laws::first_of_both, grounds::specs::Grounds::Laws::first_last))]
 pub fn layer_refusal(most: u32, n: u32, p: u32, rho: u32, i: u32, j: u32, lengths: Lengths) -> u32
     ensures { result ≡ first_ground (layer_grounds most n p rho i j (four_lengths lengths)) }
 {
@@ -94,6 +102,7 @@ pub fn layer_refusal(most: u32, n: u32, p: u32, rho: u32, i: u32, j: u32, length
 }
 
 // 1 to 3 on the head of a store, 7, then 15 by the numbers that are expected of it, 9 and 16.
+#[tactic(auto, unfolding(grounds::specs::Grounds::first_ground, grounds::specs::Grounds::expected_ground, grounds::specs::Grounds::row_ground, grounds::specs::Grounds::ceiling_ground, grounds::specs::Grounds::desk_grounds), using(grounds::specs::Grounds::Laws::first_of_both, grounds::specs::Grounds::Laws::first_last))]
 pub fn desk_refusal(
     most: u32,
     n: u32,
@@ -134,6 +143,7 @@ pub fn file_refusal(most: u32, n: u32, p: u32, rho: u32, bytes: usize, lengths: 
 }
 
 // 1 to 3 and 12.
+#[tactic(auto, unfolding(grounds::specs::Grounds::first_ground, grounds::specs::Grounds::beta_pool_grounds, grounds::specs::Grounds::full_correlation_ground, model::specs::Fraction::whole), using(grounds::specs::Grounds::Laws::first_of_both, grounds::specs::Grounds::Laws::first_last))]
 fn beta_pool_refusal(most: u32, n: u32, p: u32, rho: u32) -> u32
     ensures { result ≡ first_ground (beta_pool_grounds most n p rho) }
 {
@@ -142,6 +152,7 @@ fn beta_pool_refusal(most: u32, n: u32, p: u32, rho: u32) -> u32
     first(of_pool, of_full_correlation)
 }
 
+#[tactic(auto, unfolding(grounds::specs::Grounds::beta_column_grounds), using(grounds::specs::Grounds::Laws::first_of_both))]
 pub fn beta_column_refusal(most: u32, n: u32, p: u32, rho: u32, units: usize) -> u32
     ensures { result ≡ first_ground (beta_column_grounds most n p rho units) }
 {
@@ -150,6 +161,7 @@ pub fn beta_column_refusal(most: u32, n: u32, p: u32, rho: u32, units: usize) ->
     first(of_beta_pool, of_units)
 }
 
+#[tactic(auto, unfolding(grounds::specs::Grounds::beta_loss_grounds), using(grounds::specs::Grounds::Laws::first_of_both))]
 pub fn beta_loss_refusal(
     most: u32,
     n: u32,

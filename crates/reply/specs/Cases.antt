@@ -9,11 +9,11 @@ use borrow.Author.Tests.{ne_eqb, lt-ltb, le-ltb}
 use Rattle.model.specs.Fraction.{whole}
 use Rattle.model.specs.CorrelatedBinomial.{defaults}
 use Rattle.kept.specs.declared.Side.TheVariants.{Low}
-use Rattle.steps.specs.Cases.{cases}
+use Rattle.steps.proofs.Cases.{cases}
 use Rattle.steps.specs.Column.{printed_tail, printed_row}
 use Rattle.steps.specs.Inputs.{largest_pool, report_pool}
 use Rattle.steps.specs.CorrelatedBinomial.{kept_defaults}
-use Rattle.steps.specs.CorrelatedBinomial.Theorems.{printed}
+use Rattle.steps.proofs.CorrelatedBinomial.Theorems.{printed}
 use Rattle.grounds.specs.Grounds.{first_of, first_ground, pool_grounds, assets_ground, probability_ground, correlation_ground}
 use Rattle.text.specs.Ascii.{ascii}
 use Rattle.text.specs.Cases.{line_of_decimals, line_of_three, table_of_three}

@@ -10,8 +10,6 @@ use Rattle.steps.specs.First.{first_from}
 use Rattle.steps.specs.declared.Tranche.{Tranche}
 use Rattle.steps.specs.Loss.{LossAnswer, carried}
 use Rattle.steps.specs.Tranches.{tranche_loss}
-pub mod Laws
-pub mod Cases
 
 -- What a search answers: the number of a refusal, or the least attachment with the loss of its tranche.
 pub data AttachmentAnswer : Type 0 where

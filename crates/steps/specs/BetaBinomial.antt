@@ -7,9 +7,6 @@ use Rattle.kept.specs.declared.Side.{Side}
 use Rattle.kept.specs.Rounding.{unity, rounded_product, of_ratio}
 use Rattle.steps.specs.Chances.{kept_chances}
 use Rattle.steps.specs.Numbers.{StepNumber}
-pub mod Cases
-pub mod Laws
-pub mod Theorems
 
 -- f 0 × f 1 × … × f (m − 1), starting from one and multiplied in this order. Each product is rounded once.
 unfoldable pub kept_product : (side : Side) → (ℕ → Kept) → ℕ → Kept

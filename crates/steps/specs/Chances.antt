@@ -7,7 +7,6 @@ use Rattle.kept.specs.declared.Kept.{Kept}
 use Rattle.kept.specs.declared.Side.{Side}
 use Rattle.kept.specs.Rounding.{nought, of_integer, rounded_product, rounded_sum, rounded_quotient}
 use Rattle.steps.specs.Counts.{kept_count}
-pub mod Laws
 
 module _ (side : Side) where
   -- f 0 + f 1 + … + f (m − 1), starting from zero and added in this order.

@@ -10,7 +10,6 @@ use Rattle.kept.specs.Rounding.{value}
 use Rattle.steps.specs.Column.{exact_units, half, AtMostApart}
 use Rattle.steps.specs.declared.Verdict.{Verdict}
 use Rattle.steps.specs.declared.Verdict.TheVariants.{Refused, Passed, Fails}
-pub mod Laws
 
 -- ---- one row
 

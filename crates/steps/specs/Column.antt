@@ -11,7 +11,6 @@ use Rattle.kept.specs.declared.Side.TheVariants.{Low, High}
 use Rattle.kept.specs.Rounding.{value}
 use Rattle.kept.specs.Whole.{whole_of}
 use Rattle.steps.specs.Chances.{kept_tail}
-pub mod Laws
 
 -- Certainty in units, the scope paper's term for the parts that a column is printed in.
 unfoldable pub units_of_certainty : ℕ

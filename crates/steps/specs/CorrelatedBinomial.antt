@@ -8,7 +8,6 @@ use Rattle.steps.specs.Chances.{kept_chances}
 pub mod Rows
 pub mod Budgets
 pub mod Exponents
-pub mod Theorems
 
 -- The chances of 0 to n defaults in any order, by steps 1 to 4.
 unfoldable pub kept_defaults : (side : Side) (n p ρ : ℕ) → ℕ → Kept

@@ -6,7 +6,6 @@ use Rattle.kept.specs.declared.Kept.{Kept}
 use Rattle.kept.specs.declared.Side.{Side}
 use Rattle.kept.specs.Rounding.{unity, rounded_sum, of_integer}
 use Rattle.steps.specs.Inputs.{up_to}
-pub mod Laws
 
 -- The most assets whose counts are worked out exactly: each is below 2^64.
 unfoldable pub exact_assets : ℕ

@@ -4,7 +4,6 @@ use Rattle.std.specs.Prelude.{ℕ, ◌≡◌}
 use Rattle.model.specs.Fraction.{Fraction, AtMost, integer, plus, times}
 use Rattle.kept.specs.declared.Kept.{Kept}
 use Rattle.kept.specs.Rounding.{value, nought}
-pub mod Laws
 
 -- The exact value v lies between the kept numbers low and high, and these are at most one part in g of it apart.
 pub record Enclosed (g : ℕ) (low high : Kept) (v : Fraction) : Type 0 where

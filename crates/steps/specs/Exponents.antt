@@ -3,7 +3,6 @@
 use Rattle.std.specs.Prelude.{pos, negsuc, ◌≤ℤ◌}
 use Rattle.kept.specs.declared.Kept.{Kept}
 use Rattle.kept.specs.Rounding.{IsKept}
-pub mod Laws
 
 -- A kept number with an exponent from −80,000 to 100.
 pub record Ranged (x : Kept) : Type 0 where

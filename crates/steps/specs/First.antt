@@ -1,7 +1,6 @@
 -- The first number that passes a test.
 -- Assumes nothing.
 use Rattle.std.specs.Prelude.{ℕ, zero, suc, ◌<◌, ◌≡◌, Bool, true, false, cond}
-pub mod Laws
 
 -- What is made of the first of so many numbers from k on that passes a test, and `none` where none does.
 unfoldable pub first_from : {A : Type 0} (test : ℕ → Bool) (made : ℕ → A) (none : A) (many k : ℕ) → A

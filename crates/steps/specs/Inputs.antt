@@ -2,7 +2,6 @@
 -- Assumes nothing.
 use Rattle.std.specs.Prelude.{ℕ, ◌≤◌, ◌<◌, cond, ltb}
 use Rattle.model.specs.Fraction.{whole}
-pub mod Laws
 
 -- x for up to `limit` assets, and y for more.
 unfoldable pub up_to : {A : Type 0} (limit n : ℕ) (x y : A) → A

@@ -6,7 +6,6 @@ use Rattle.kept.specs.declared.Side.{Side}
 use Rattle.kept.specs.declared.Side.TheVariants.{Low, High}
 use Rattle.steps.specs.Chances.{kept_layer}
 use Rattle.steps.specs.Loss.{LossAnswer, untouched, loss_answer}
-pub mod Laws
 
 module _ (n : ℕ) (c : Side → ℕ → Kept) (i j : ℕ) where
   -- The loss of the layer from the i-th to the j-th default for n assets, from the kept chances of both sides: what its two bounds give.

@@ -16,4 +16,3 @@ pub mod Numbers
 pub mod Promises
 pub mod CorrelatedBinomial
 pub mod BetaBinomial
-pub mod Cases

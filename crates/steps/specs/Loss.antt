@@ -8,7 +8,6 @@ use Rattle.kept.specs.declared.Side.TheVariants.{Low, High}
 use Rattle.kept.specs.Rounding.{value, nought}
 use Rattle.kept.specs.Binary64.{least_shown, below_shown, to_binary64, IsBinary64, exact_value}
 use Rattle.steps.specs.Enclosure.{Enclosed}
-pub mod Laws
 
 -- One of three, each with its f64 numbers. Untouched and faint are the scope paper's terms: a loss whose high side is zero, and one that is too small to be
 -- shown by two bounds.

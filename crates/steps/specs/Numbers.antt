@@ -8,7 +8,6 @@ use Rattle.kept.specs.declared.Side.{Side}
 use Rattle.kept.specs.Rounding.{of_integer}
 use Rattle.steps.specs.Counts.{CountNumber}
 use Rattle.steps.specs.Chances.{kept_total, kept_chance, kept_chances, kept_tail, kept_term, kept_loss, kept_layer}
-pub mod Laws
 
 -- Every number that step 4 makes for n assets from the entries of a row.
 pub data ChanceNumber (side : Side) (n : ℕ) (entry : ℕ → Kept) : Kept → Type 0 where

@@ -21,7 +21,6 @@ use Rattle.steps.specs.declared.Verdict.{Verdict}
 use Rattle.steps.specs.declared.Verdict.TheVariants.{Passed}
 use Rattle.steps.specs.Claims.{RowPasses}
 use Rattle.steps.specs.Attachments.{AttachmentAnswer, refused, lowest, tranche_from}
-pub mod Laws
 
 -- The bounds of chances, tails and the losses of tranches and layers enclose the exact values and are at most one part in g apart.
 pub record RowEnclosed (g : ℕ) (r : Chances) (c : Side → ℕ → Kept) : Type 0 where

@@ -3,7 +3,6 @@
 use Rattle.std.specs.Prelude.{ℕ, ℤ, pos, ◌-ℤ◌}
 use Rattle.kept.specs.declared.Kept.{Kept}
 use Rattle.steps.specs.Column.{printed_tail}
-pub mod Laws
 
 -- Entry k: the printed tail at k from the chances `low` of the low side, less that from the chances `base`.
 unfoldable pub tail_shift : (n : ℕ) (low base : ℕ → Kept) → ℕ → ℤ

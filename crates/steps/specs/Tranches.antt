@@ -13,8 +13,6 @@ use Rattle.steps.specs.declared.Tranche.{Tranche}
 use Rattle.steps.specs.Inputs.{TrancheInRange}
 use Rattle.steps.specs.Chances.{kept_loss}
 use Rattle.steps.specs.Loss.{LossAnswer, untouched, loss_answer, carried}
-pub mod Laws
-pub mod Cases
 
 -- The places for tranches in a loss call, and for losses in its answer.
 unfoldable pub tranche_places : ℕ

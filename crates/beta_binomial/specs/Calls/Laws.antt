@@ -7,11 +7,11 @@ use Rattle.model.specs.BetaBinomial.{quotient_defaults}
 use Rattle.kept.specs.declared.Kept.{Kept}
 use Rattle.kept.specs.declared.Side.TheVariants.{Low}
 use Rattle.steps.specs.BetaBinomial.{kept_entry}
-use Rattle.steps.specs.BetaBinomial.Theorems.{products_within, products_placed, beta_budget, beta_entries, beta_steps_hold}
+use Rattle.steps.proofs.BetaBinomial.Theorems.{products_within, products_placed, beta_budget, beta_entries, beta_steps_hold}
 use Rattle.steps.specs.declared.Tranche.{Tranche}
 use Rattle.steps.specs.Loss.{LossAnswer}
 use Rattle.steps.specs.Inputs.{largest_pool, InRange}
-use Rattle.steps.specs.Inputs.Laws.{working_range}
+use Rattle.steps.proofs.Inputs.Laws.{working_range}
 use Rattle.working.specs.Working.{working_places, Entries}
 use Rattle.grounds.specs.Grounds.{first_ground, TranchesAccepted}
 use Rattle.grounds.specs.Grounds.Laws.{beta_loss_grounds_within}

@@ -8,7 +8,7 @@ use Rattle.kept.specs.Rounding.{Operand, rounded_product}
 use Rattle.steps.specs.Counts.{kept_count, is_count}
 use Rattle.steps.specs.Chances.{kept_chance, kept_chances}
 use Rattle.steps.specs.Exponents.{Ranged}
-use Rattle.steps.specs.Exponents.Laws.{ranged_operand}
+use Rattle.steps.proofs.Exponents.Laws.{ranged_operand}
 use Rattle.steps.specs.Numbers.{StepNumber, of_counts, is_chance, of_chances}
 use Rattle.working.specs.Working.{working_places, Entries}
 use Rattle.working.specs.Working.Laws.{entries_more}

@@ -5,18 +5,18 @@ use Rattle.std.proofs.Common.{arith}
 use Rattle.model.specs.Fraction.{Fraction, AtMost, certainty, integer}
 use Rattle.model.specs.Fraction.Laws.{at_most_trans}
 use Rattle.model.specs.Chances.{Chances}
-use Rattle.model.specs.Chances.Laws.{tail_at_most_one}
+use Rattle.model.proofs.Chances.Laws.{tail_at_most_one}
 use Rattle.kept.specs.declared.Kept.{Kept}
 use Rattle.kept.specs.declared.Side.{Side}
 use Rattle.kept.specs.declared.Side.TheVariants.{Low}
 use Rattle.kept.specs.Rounding.{IsKept}
 use Rattle.steps.specs.Inputs.{working_assets}
 use Rattle.steps.specs.Budgets.{WithinBudget, WithinPlaces}
-use Rattle.steps.specs.Chances.Laws.{tail_bound}
-use Rattle.steps.specs.Column.Laws.{printed_falls}
+use Rattle.steps.proofs.Chances.Laws.{tail_bound}
+use Rattle.steps.proofs.Column.Laws.{printed_falls}
 use Rattle.steps.specs.Enclosure.{Enclosed}
-use Rattle.steps.specs.Loss.Laws.{high_to_two}
-use Rattle.steps.specs.Promises.Laws.{chances_bounded, entries_ranged, steps_ranged}
+use Rattle.steps.proofs.Loss.Laws.{high_to_two}
+use Rattle.steps.proofs.Promises.Laws.{chances_bounded, entries_ranged, steps_ranged}
 use Rattle.working.specs.Working.{working_places, Entries}
 use Rattle.chances.specs.Chances.{StepsReady, Answerable}
 use Rattle.chances.specs.Tails.{ColumnReady}

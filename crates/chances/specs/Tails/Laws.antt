@@ -18,7 +18,7 @@ use Rattle.kept.specs.Whole.{whole_of}
 use Rattle.kept.specs.Whole.Laws.{whole_at_most}
 use Rattle.steps.specs.Chances.{kept_total, kept_chances, kept_tail}
 use Rattle.steps.specs.Column.{units_of_certainty, in_units, printed_tail, printed_row}
-use Rattle.steps.specs.Exponents.Laws.{ranged_operand}
+use Rattle.steps.proofs.Exponents.Laws.{ranged_operand}
 use Rattle.steps.specs.Numbers.{TailNumber, is_tail, of_tails}
 use Rattle.working.specs.Working.{working_places, Entries}
 use Rattle.working.specs.Working.Laws.{entries_more}

@@ -3,14 +3,14 @@
 use Rattle.std.specs.Prelude.{ℕ, ◌≤◌, ◌<◌, List, length}
 use Rattle.model.specs.Fraction.{Fraction}
 use Rattle.model.specs.Chances.{Chances}
-use Rattle.model.specs.Chances.Laws.{chance_at_most_one}
+use Rattle.model.proofs.Chances.Laws.{chance_at_most_one}
 use Rattle.kept.specs.declared.Kept.{Kept}
 use Rattle.kept.specs.declared.Side.{Side}
 use Rattle.kept.specs.declared.Side.TheVariants.{Low, High}
 use Rattle.kept.specs.Accuracy.{BudgetFor}
 use Rattle.steps.specs.Inputs.{working_assets}
 use Rattle.steps.specs.Budgets.{chance_budget, layer_budget, WithinBudget, WithinPlaces}
-use Rattle.steps.specs.Promises.Laws.{chances_bounded, row_enclosed}
+use Rattle.steps.proofs.Promises.Laws.{chances_bounded, row_enclosed}
 use Rattle.chances.specs.Chances.{OnSides}
 use Rattle.chances.specs.Chances.Ready.{steps_ready, enclosed_answerable}
 use Rattle.claims.specs.Check.{CheckReady}

@@ -7,7 +7,7 @@ use Rattle.std.proofs.Math.Nat.{div-eq_of_lt}
 use Rattle.model.specs.Fraction.{Fraction, AtMost, certainty, integer, plus, minus}
 use Rattle.model.specs.Fraction.Laws.{at_most_refl, at_most_trans, plus_mono}
 use Rattle.model.specs.Chances.{Chances, Complete, chance}
-use Rattle.model.specs.Chances.Laws.{chance_at_most_one}
+use Rattle.model.proofs.Chances.Laws.{chance_at_most_one}
 use Rattle.model.specs.CorrelatedBinomial.{defaults}
 use Rattle.kept.specs.declared.Kept.{Kept}
 use Rattle.kept.specs.declared.Side.{Side}
@@ -18,12 +18,12 @@ use Rattle.steps.specs.Column.{units_of_certainty, exact_units, half, to_nearest
 use Rattle.steps.specs.declared.Verdict.{Verdict}
 use Rattle.steps.specs.declared.Verdict.TheVariants.{Refused, Passed, Fails}
 use Rattle.steps.specs.Claims.{Passes, refusal_in, Means}
-use Rattle.steps.specs.Claims.Laws.{width_units}
+use Rattle.steps.proofs.Claims.Laws.{width_units}
 use Rattle.steps.specs.Enclosure.{Enclosed}
 use Rattle.steps.specs.Inputs.{largest_pool, up_to, fine_pool, distance_for}
-use Rattle.steps.specs.Inputs.Laws.{up_to_both}
+use Rattle.steps.proofs.Inputs.Laws.{up_to_both}
 use Rattle.steps.specs.Promises.{RowEnclosed, HoldsVerdict}
-use Rattle.steps.specs.CorrelatedBinomial.Theorems.{within}
+use Rattle.steps.proofs.CorrelatedBinomial.Theorems.{within}
 use Rattle.grounds.specs.Grounds.{column_grounds}
 use Rattle.store.specs.declared.Pool.{Pool}
 use Rattle.store.specs.Stores.{Store, lengths}

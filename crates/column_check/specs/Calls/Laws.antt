@@ -10,17 +10,17 @@ use Rattle.model.specs.CorrelatedBinomial.{defaults}
 use Rattle.kept.specs.declared.Kept.{Kept}
 use Rattle.kept.specs.declared.Side.{Side}
 use Rattle.steps.specs.Claims.{refusal_in, verdict_on, verdict_after, Means}
-use Rattle.steps.specs.Claims.Laws.{verdict_refused, verdict_number, verdict_means, verdict_alone}
+use Rattle.steps.proofs.Claims.Laws.{verdict_refused, verdict_number, verdict_means, verdict_alone}
 use Rattle.steps.specs.declared.Verdict.{Verdict}
 use Rattle.steps.specs.declared.Verdict.TheVariants.{Refused}
 use Rattle.steps.specs.Inputs.{largest_pool, InRange}
-use Rattle.steps.specs.Inputs.Laws.{working_range}
+use Rattle.steps.proofs.Inputs.Laws.{working_range}
 use Rattle.steps.specs.Promises.{RowEnclosed}
-use Rattle.steps.specs.Promises.Laws.{chances_ordered, verdict_holds}
+use Rattle.steps.proofs.Promises.Laws.{chances_ordered, verdict_holds}
 use Rattle.steps.specs.CorrelatedBinomial.{kept_defaults}
 use Rattle.steps.specs.CorrelatedBinomial.Budgets.{defaults_budget, pool_budget}
 use Rattle.steps.specs.CorrelatedBinomial.Rows.{kept_row}
-use Rattle.steps.specs.CorrelatedBinomial.Theorems.{within, placed, pool_budgets, steps_hold}
+use Rattle.steps.proofs.CorrelatedBinomial.Theorems.{within, placed, pool_budgets, steps_hold}
 use Rattle.chances.specs.Chances.{OnSides}
 use Rattle.claims.specs.Check.{CheckReady}
 use Rattle.claims.specs.Check.Ready.{check_ready}

@@ -12,7 +12,7 @@ use Rattle.kept.specs.declared.Side.{Side}
 use Rattle.kept.specs.declared.Side.TheVariants.{Low, High}
 use Rattle.kept.specs.Rounding.{nought}
 use Rattle.steps.specs.Inputs.{largest_pool}
-use Rattle.steps.specs.Inputs.Laws.{working_range}
+use Rattle.steps.proofs.Inputs.Laws.{working_range}
 use Rattle.working.specs.Working.{working_places, Changed}
 use Rattle.working.specs.Slices.{SideStore, number_at, Readable}
 use Rattle.working.specs.Slices.Laws.{changed_entries, after_same, entries_untouched, entries_at}

@@ -18,13 +18,13 @@ use Rattle.kept.specs.declared.Side.TheVariants.{Low, High}
 use Rattle.kept.specs.Rounding.{Operand, of_integer, rounded_product, rounded_sum, rounded_quotient}
 use Rattle.kept.specs.Rounding.Exponents.{difference_back}
 use Rattle.steps.specs.Chances.{kept_total, kept_term, kept_loss}
-use Rattle.steps.specs.Chances.Laws.{units_either}
-use Rattle.steps.specs.Exponents.Laws.{ranged_operand}
+use Rattle.steps.proofs.Chances.Laws.{units_either}
+use Rattle.steps.proofs.Exponents.Laws.{ranged_operand}
 use Rattle.steps.specs.Inputs.{working_assets, TrancheInRange}
 use Rattle.steps.specs.declared.Tranche.{Tranche}
 use Rattle.steps.specs.Loss.{untouched}
 use Rattle.steps.specs.Tranches.{tranche_places, tranche_at, tranche_losses}
-use Rattle.steps.specs.Tranches.Laws.{losses_more}
+use Rattle.steps.proofs.Tranches.Laws.{losses_more}
 use Rattle.steps.specs.Numbers.{is_units, is_term, is_total, of_losses}
 use Rattle.working.specs.Working.{working_places, Entries}
 use Rattle.working.specs.Working.Laws.{entries_more}

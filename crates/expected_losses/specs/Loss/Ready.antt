@@ -3,7 +3,7 @@
 use Rattle.std.specs.Prelude.{ℕ, ◌≤◌, ◌<◌, List, take}
 use Rattle.model.specs.Fraction.{Fraction}
 use Rattle.model.specs.Chances.{Chances}
-use Rattle.model.specs.Chances.Laws.{loss_at_most_one}
+use Rattle.model.proofs.Chances.Laws.{loss_at_most_one}
 use Rattle.kept.specs.declared.Kept.{Kept}
 use Rattle.kept.specs.declared.Side.{Side}
 use Rattle.kept.specs.declared.Side.TheVariants.{Low, High}
@@ -12,8 +12,8 @@ use Rattle.steps.specs.Inputs.{working_assets}
 use Rattle.steps.specs.declared.Tranche.{Tranche}
 use Rattle.steps.specs.Tranches.{tranche_places, TranchesInRange}
 use Rattle.steps.specs.Budgets.{chance_budget, layer_budget, WithinBudget, WithinPlaces}
-use Rattle.steps.specs.Chances.Laws.{loss_kept}
-use Rattle.steps.specs.Promises.Laws.{row_enclosed}
+use Rattle.steps.proofs.Chances.Laws.{loss_kept}
+use Rattle.steps.proofs.Promises.Laws.{row_enclosed}
 use Rattle.chances.specs.Chances.{OnSides}
 use Rattle.chances.specs.Chances.Ready.{steps_ready, enclosed_answerable}
 use Rattle.expected_losses.specs.Loss.{TranchesReady}

@@ -17,7 +17,7 @@ use Rattle.model.specs.Number.Laws.{triangle_closed, triangle_mono}
 use Rattle.kept.specs.declared.Kept.{Kept}
 use Rattle.steps.specs.declared.Tranche.{Tranche}
 use Rattle.steps.specs.Inputs.{largest_pool, report_pool, TrancheInRange}
-use Rattle.steps.specs.Inputs.Laws.{report_range}
+use Rattle.steps.proofs.Inputs.Laws.{report_range}
 use Rattle.steps.specs.Tranches.{tranche_places, tranche_at}
 use Rattle.grounds.specs.Grounds.{Ground, first_of, first_ground, store_places, some_shorter, assets_ground, probability_ground, correlation_ground}
 use Rattle.grounds.specs.Grounds.{recovery_ground, upper_ground, attachments_ground, store_ground, entries_ground, row_ground, screen_ground, full_correlation_ground}

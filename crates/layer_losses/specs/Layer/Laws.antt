@@ -7,7 +7,7 @@ use Rattle.kept.specs.declared.Kept.{Kept}
 use Rattle.kept.specs.declared.Side.{Side}
 use Rattle.kept.specs.Rounding.{Operand, nought, rounded_sum, rounded_quotient}
 use Rattle.steps.specs.Chances.{kept_total, kept_chances, kept_tail, kept_layer}
-use Rattle.steps.specs.Exponents.Laws.{ranged_operand}
+use Rattle.steps.proofs.Exponents.Laws.{ranged_operand}
 use Rattle.steps.specs.Numbers.{is_tail, is_sum, of_tails, of_layers}
 use Rattle.working.specs.Working.{working_places, Entries}
 use Rattle.chances.specs.Chances.{ChancesMade}

@@ -3,15 +3,15 @@
 use Rattle.std.specs.Prelude.{ℕ, ◌≤◌, List}
 use Rattle.model.specs.Fraction.{Fraction}
 use Rattle.model.specs.Chances.{Chances}
-use Rattle.model.specs.Chances.Laws.{layer_at_most_one}
+use Rattle.model.proofs.Chances.Laws.{layer_at_most_one}
 use Rattle.kept.specs.declared.Kept.{Kept}
 use Rattle.kept.specs.declared.Side.{Side}
 use Rattle.kept.specs.declared.Side.TheVariants.{Low, High}
 use Rattle.kept.specs.Accuracy.{BudgetFor}
 use Rattle.steps.specs.Inputs.{working_assets, LayerInRange}
 use Rattle.steps.specs.Budgets.{chance_budget, layer_budget, WithinBudget, WithinPlaces}
-use Rattle.steps.specs.Chances.Laws.{layer_kept}
-use Rattle.steps.specs.Promises.Laws.{row_enclosed}
+use Rattle.steps.proofs.Chances.Laws.{layer_kept}
+use Rattle.steps.proofs.Promises.Laws.{row_enclosed}
 use Rattle.chances.specs.Chances.{OnSides}
 use Rattle.chances.specs.Chances.Ready.{steps_ready, enclosed_answerable}
 use Rattle.layer_losses.specs.Layer.{LayerReady}

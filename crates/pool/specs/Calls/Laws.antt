@@ -13,16 +13,16 @@ use Rattle.steps.specs.Column.{printed_tail, printed_row, PrintsColumn}
 use Rattle.steps.specs.declared.Tranche.{Tranche}
 use Rattle.steps.specs.Loss.{LossAnswer, untouched}
 use Rattle.steps.specs.Tranches.{tranche_places, tranche_losses, losses_after}
-use Rattle.steps.specs.Tranches.Laws.{losses_untouched, losses_accepted}
+use Rattle.steps.proofs.Tranches.Laws.{losses_untouched, losses_accepted}
 use Rattle.steps.specs.Layers.{loss_of_layer, layer_after}
-use Rattle.steps.specs.Layers.Laws.{layer_untouched}
+use Rattle.steps.proofs.Layers.Laws.{layer_untouched}
 use Rattle.steps.specs.Inputs.{largest_pool, InRange, LayerInRange}
-use Rattle.steps.specs.Inputs.Laws.{working_range}
+use Rattle.steps.proofs.Inputs.Laws.{working_range}
 use Rattle.steps.specs.Promises.{HoldsLosses, HoldsLayer}
-use Rattle.steps.specs.Promises.Laws.{column_holds}
+use Rattle.steps.proofs.Promises.Laws.{column_holds}
 use Rattle.steps.specs.CorrelatedBinomial.Budgets.{defaults_budget, pool_budget, BudgetsFor}
 use Rattle.steps.specs.CorrelatedBinomial.Rows.{kept_row}
-use Rattle.steps.specs.CorrelatedBinomial.Theorems.{within, placed, pool_budgets, answers}
+use Rattle.steps.proofs.CorrelatedBinomial.Theorems.{within, placed, pool_budgets, answers}
 use Rattle.working.specs.Working.{working_places, Entries}
 use Rattle.working.specs.Slices.{entries_after}
 use Rattle.working.specs.Slices.Laws.{entries_at, entries_untouched}

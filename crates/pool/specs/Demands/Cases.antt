@@ -14,7 +14,7 @@ use Rattle.kept.specs.Rounding.Leading.{side_same}
 use Rattle.steps.specs.Chances.{kept_loss}
 use Rattle.steps.specs.declared.Tranche.{Tranche}
 use Rattle.steps.specs.declared.Verdict.{Verdict}
-use Rattle.steps.specs.Tranches.Cases.{three, touch}
+use Rattle.steps.proofs.Tranches.Cases.{three, touch}
 use Rattle.model.specs.Number.Laws.{triangle_closed}
 use Rattle.grounds.specs.Grounds.{store_places, first_ground, file_grounds}
 use Rattle.grounds.specs.Grounds.Laws.{store_places_lem}

@@ -12,10 +12,10 @@ use Rattle.model.specs.Number.Laws.{triangle_closed}
 use Rattle.model.specs.Fraction.{Fraction, Same, AtMost, integer, whole, complement, over}
 use Rattle.model.specs.Fraction.Laws.{same_refl, same_sym, same_trans, times_same, fraction_sum_same}
 use Rattle.model.specs.Chances.{Chances, chance, expected_loss}
-use Rattle.model.specs.Chances.Laws.{layer_tranche, layer_tranche_wide}
+use Rattle.model.proofs.Chances.Laws.{layer_tranche, layer_tranche_wide}
 use Rattle.model.specs.Touching.{Touching, total_loss, pool_loss}
 use Rattle.model.specs.CorrelatedBinomial.{defaults}
-use Rattle.model.specs.CorrelatedBinomial.Theorems.{defaults_layer}
+use Rattle.model.proofs.CorrelatedBinomial.Theorems.{defaults_layer}
 use Rattle.kept.specs.declared.Kept.{Kept}
 use Rattle.kept.specs.declared.Side.{Side}
 use Rattle.kept.specs.declared.Side.TheVariants.{Low, High}
@@ -25,16 +25,16 @@ use Rattle.kept.specs.Binary64.{least_shown, IsBinary64}
 use Rattle.kept.specs.Binary64.Laws.{exact_value_lem}
 use Rattle.steps.specs.CorrelatedBinomial.Rows.{kept_row}
 use Rattle.steps.specs.Column.{units_of_certainty, exact_units, half, printed_tail, tenths}
-use Rattle.steps.specs.Column.Laws.{in_units_at_most, in_units_next, within_weaken}
+use Rattle.steps.proofs.Column.Laws.{in_units_at_most, in_units_next, within_weaken}
 use Rattle.steps.specs.Enclosure.{Enclosed}
 use Rattle.steps.specs.declared.Tranche.{Tranche}
 use Rattle.steps.specs.Loss.{untouched, raised_to_shown, carried, Says}
 use Rattle.steps.specs.Tranches.{tranche_places, tranche_at, recoveries, lowers, uppers, TranchesTouch, exact_total, bound_total, carried_total}
-use Rattle.steps.specs.Tranches.Laws.{answer_length, losses_untouched}
-use Rattle.steps.specs.Layers.Laws.{layer_untouched}
-use Rattle.steps.specs.Loss.Laws.{raised_greater, least_shown_value}
+use Rattle.steps.proofs.Tranches.Laws.{answer_length, losses_untouched}
+use Rattle.steps.proofs.Layers.Laws.{layer_untouched}
+use Rattle.steps.proofs.Loss.Laws.{raised_greater, least_shown_value}
 use Rattle.steps.specs.Inputs.{up_to, largest_pool, fine_pool, distance_for, tenths_for, LayerInRange}
-use Rattle.steps.specs.Inputs.Laws.{up_to_both}
+use Rattle.steps.proofs.Inputs.Laws.{up_to_both}
 use Rattle.steps.specs.Promises.{HoldsSteps, HoldsColumn, HoldsLoss, HoldsTranche, HoldsLosses, HoldsLayer}
 use Rattle.steps.specs.Chances.{kept_tail, kept_loss}
 use Rattle.expected_losses.specs.Loss.{loss_of, losses_in}

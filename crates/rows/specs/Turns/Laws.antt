@@ -15,11 +15,11 @@ use Rattle.kept.specs.declared.Side.{Side}
 use Rattle.kept.specs.Rounding.{Operand, nought, rounded_product, rounded_sum}
 use Rattle.steps.specs.CorrelatedBinomial.Exponents.{RowNumber, of_rows, is_a, is_ρ, is_q, is_conditional_product, is_conditional, is_joint}
 use Rattle.steps.specs.CorrelatedBinomial.Exponents.{is_power, is_weight, is_passed, is_pass_product}
-use Rattle.steps.specs.Exponents.Laws.{ranged_operand}
-use Rattle.steps.specs.CorrelatedBinomial.Theorems.{exponents}
+use Rattle.steps.proofs.Exponents.Laws.{ranged_operand}
+use Rattle.steps.proofs.CorrelatedBinomial.Theorems.{exponents}
 use Rattle.steps.specs.CorrelatedBinomial.Rows.{constant, kept_conditional, kept_joint, kept_power, kept_weight, kept_pass_step, kept_row}
 use Rattle.steps.specs.Inputs.{working_assets, InRange}
-use Rattle.steps.specs.Inputs.Laws.{range_below}
+use Rattle.steps.proofs.Inputs.Laws.{range_below}
 use Rattle.working.specs.Working.{working_places, Entries, Changed}
 use Rattle.working.specs.Working.Laws.{changed_none, changed_more}
 use Rattle.working.specs.Slices.{SideStore, number_at, with_number, HasPlaces, Stored}

@@ -8,7 +8,7 @@ use Rattle.kept.specs.declared.Side.{Side}
 use Rattle.kept.specs.Rounding.{unity}
 use Rattle.steps.specs.CorrelatedBinomial.Rows.{kept_weight, kept_row}
 use Rattle.steps.specs.Inputs.{working_assets, InRange}
-use Rattle.steps.specs.Inputs.Laws.{range_below}
+use Rattle.steps.proofs.Inputs.Laws.{range_below}
 use Rattle.working.specs.Working.{working_places, Entries}
 use Rattle.working.specs.Working.Laws.{entries_same}
 use Rattle.working.specs.Slices.{SideStore, with_number, number_at, HasPlaces, Standing, Readable, Stored}

@@ -6,7 +6,7 @@ use Rattle.steps.specs.declared.Tranche.{Tranche}
 use Rattle.steps.specs.Loss.{LossAnswer, untouched}
 use Rattle.steps.specs.Tranches.{tranche_places}
 use Rattle.steps.specs.Inputs.{largest_pool, distance_for, screen_pool}
-use Rattle.steps.specs.CorrelatedBinomial.Theorems.{screen_budgets}
+use Rattle.steps.proofs.CorrelatedBinomial.Theorems.{screen_budgets}
 use Rattle.grounds.specs.Grounds.{first_ground, assets_ground, screen_ground, screen_column_grounds, screened, screen_loss_grounds}
 use Rattle.grounds.specs.Grounds.Laws.{loss_grounds_within, column_starts, loss_starts, screens, screens_at, screens_within, screen_refused, screen_within}
 use Rattle.store.specs.declared.Pool.{Pool}

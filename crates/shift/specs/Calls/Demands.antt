@@ -10,7 +10,7 @@ use Rattle.kept.specs.declared.Kept.{Kept}
 use Rattle.kept.specs.declared.Side.TheVariants.{Low}
 use Rattle.steps.specs.Chances.{kept_tail}
 use Rattle.steps.specs.Column.{units_of_certainty, exact_units, tenths, printed_tail}
-use Rattle.steps.specs.Column.Laws.{within_weaken}
+use Rattle.steps.proofs.Column.Laws.{within_weaken}
 use Rattle.steps.specs.Shifts.{tail_shift}
 use Rattle.steps.specs.Inputs.{up_to, report_pool, fine_pool, distance_for, shift_tenths}
 use Rattle.steps.specs.Promises.{HoldsShifts}

@@ -6,7 +6,7 @@ use Rattle.kept.specs.declared.Side.TheVariants.{Low}
 use Rattle.steps.specs.Column.{tenths}
 use Rattle.steps.specs.Shifts.{tail_shift}
 use Rattle.steps.specs.CorrelatedBinomial.{kept_defaults}
-use Rattle.steps.specs.CorrelatedBinomial.Theorems.{shifts}
+use Rattle.steps.proofs.CorrelatedBinomial.Theorems.{shifts}
 use Rattle.steps.specs.Inputs.{report_pool, shift_tenths, InRange}
 use Rattle.steps.specs.Promises.{HoldsShifts}
 use Rattle.working.specs.Slices.{entries_after}

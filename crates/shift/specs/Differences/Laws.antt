@@ -4,7 +4,7 @@ use Rattle.std.specs.Prelude.{ℕ, ◌≡◌, List, ℤ}
 use Rattle.std.proofs.Common.{arith}
 use Rattle.kept.specs.declared.Kept.{Kept}
 use Rattle.steps.specs.Column.{printed_tail}
-use Rattle.steps.specs.Column.Laws.{printed_at_most}
+use Rattle.steps.proofs.Column.Laws.{printed_at_most}
 use Rattle.steps.specs.Shifts.{tail_shift}
 use Rattle.working.specs.Slices.{entries_after}
 use Rattle.working.specs.Slices.Laws.{after_same}

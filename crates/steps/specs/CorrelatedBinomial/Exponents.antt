@@ -8,7 +8,6 @@ use Rattle.kept.specs.declared.Side.{Side}
 use Rattle.kept.specs.Rounding.{rounded_product}
 use Rattle.steps.specs.Numbers.{StepNumber}
 use Rattle.steps.specs.CorrelatedBinomial.Rows.{constant, kept_conditional, kept_joint, kept_power, kept_weight, kept_pass_step, kept_row}
-pub mod Laws
 
 -- Every number that steps 1 to 3 make for rows 0 to n.
 pub data RowNumber (side : Side) (n p ρ : ℕ) : Kept → Type 0 where

@@ -7,7 +7,6 @@ use Rattle.model.specs.Passes.{passed}
 use Rattle.kept.specs.declared.Kept.{Kept}
 use Rattle.kept.specs.declared.Side.{Side}
 use Rattle.kept.specs.Rounding.{unity, of_basis_points, rounded_product, rounded_sum}
-pub mod Laws
 
 module _ (side : Side) where
   -- Step 1: p, a, ρ and q are `constant` of p, complement p, ρ and complement ρ, whole basis points over 10,000.

@@ -13,7 +13,7 @@ use Rattle.kept.specs.declared.Side.{Side}
 use Rattle.kept.specs.Rounding.{nought}
 use Rattle.steps.specs.CorrelatedBinomial.Budgets.{BudgetsFor}
 use Rattle.steps.specs.CorrelatedBinomial.Rows.{kept_row}
-use Rattle.steps.specs.CorrelatedBinomial.Theorems.{pool_budgets, steps_hold}
+use Rattle.steps.proofs.CorrelatedBinomial.Theorems.{pool_budgets, steps_hold}
 use Rattle.steps.specs.Inputs.{largest_pool, distance_for}
 use Rattle.working.specs.Slices.{tabulate, overwritten}
 use Rattle.working.specs.Slices.Laws.{length_tabulate, get_d_tabulate}

@@ -4,7 +4,7 @@ use Rattle.std.specs.Prelude.{ℕ}
 use Rattle.kept.specs.declared.Side.{Side}
 use Rattle.kept.specs.declared.Side.TheVariants.{Low, High}
 use Rattle.steps.specs.Inputs.{largest_pool}
-use Rattle.steps.specs.Inputs.Laws.{working_range}
+use Rattle.steps.proofs.Inputs.Laws.{working_range}
 use Rattle.rows.specs.Filling.{Fillable}
 use Rattle.grounds.specs.Grounds.{FillAccepted}
 use Rattle.store.specs.Stores.{Store, lengths, side_of}

@@ -15,9 +15,9 @@ use Rattle.steps.specs.CorrelatedBinomial.Budgets.{BudgetsFor}
 use Rattle.steps.specs.CorrelatedBinomial.Rows.{kept_row}
 use Rattle.steps.specs.Enclosure.{Enclosed}
 use Rattle.steps.specs.CorrelatedBinomial.Exponents.{is_entry, of_rows}
-use Rattle.steps.specs.CorrelatedBinomial.Theorems.{entries, exponents}
+use Rattle.steps.proofs.CorrelatedBinomial.Theorems.{entries, exponents}
 use Rattle.steps.specs.Inputs.{largest_pool, InRange}
-use Rattle.steps.specs.Inputs.Laws.{working_range}
+use Rattle.steps.proofs.Inputs.Laws.{working_range}
 use Rattle.working.specs.Slices.{SideStore, number_at}
 use Rattle.rows.specs.Store.{filled_side}
 use Rattle.rows.specs.Store.Laws.{filled_entry}

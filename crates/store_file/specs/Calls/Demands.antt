@@ -17,10 +17,10 @@ use Rattle.kept.specs.declared.Kept.{Kept}
 use Rattle.kept.specs.declared.Side.{Side}
 use Rattle.kept.specs.declared.Side.TheVariants.{Low, High}
 use Rattle.steps.specs.CorrelatedBinomial.Exponents.{is_entry, of_rows}
-use Rattle.steps.specs.CorrelatedBinomial.Theorems.{exponents}
+use Rattle.steps.proofs.CorrelatedBinomial.Theorems.{exponents}
 use Rattle.steps.specs.Exponents.{Ranged}
 use Rattle.steps.specs.Inputs.{largest_pool}
-use Rattle.steps.specs.Inputs.Laws.{working_range}
+use Rattle.steps.proofs.Inputs.Laws.{working_range}
 use Rattle.working.specs.Slices.{number_at}
 use Rattle.grounds.specs.Grounds.{store_places, file_bytes, is_kept, EachAtLeast, FillAccepted, first_ground, file_grounds}
 use Rattle.grounds.specs.Grounds.Laws.{store_places_lem, fill_accepted, file_answered}

@@ -1,0 +1,6 @@
+-- At the loop's head the rows below k pass.
+use Rattle.claims.specs.Check.Laws.{RowsBelow}
+use Rattle.claims.proofs.first_to_fail.Given as goal
+
+abbrev pub invariant-loop-k : goal.invariant-loop-k
+invariant-loop-k l = RowsBelow l.n l.low l.high l.claims l.k

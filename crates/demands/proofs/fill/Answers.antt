@@ -1,0 +1,9 @@
+-- `fill` meets its contract.
+use Rattle.store.specs.Stores.{store}
+use Rattle.pool.specs.Demands.{lent}
+use Rattle.pool.specs.Demands.Theorems.{fill_meets}
+use Rattle.demands.proofs.fill.Goals as goal
+
+pub returns : goal.returns
+unfolding store lent
+returns c = fill_meets c.fill.ensures

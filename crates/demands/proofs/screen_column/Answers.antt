@@ -1,0 +1,9 @@
+-- `screen_column` meets its contract.
+use Rattle.store.specs.Stores.{store}
+use Rattle.pool.specs.Demands.{lent}
+use Rattle.screen.specs.Calls.Demands.{screen_column_meets}
+use Rattle.demands.proofs.screen_column.Goals as goal
+
+pub returns : goal.returns
+unfolding store lent
+returns c = screen_column_meets c.column.ensures

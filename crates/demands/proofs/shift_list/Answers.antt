@@ -1,0 +1,9 @@
+-- `shift_list` meets its contract.
+use Rattle.store.specs.Stores.{store}
+use Rattle.pool.specs.Demands.{lent}
+use Rattle.shift.specs.Calls.Demands.{shift_meets}
+use Rattle.demands.proofs.shift_list.Goals as goal
+
+pub returns : goal.returns
+unfolding store lent
+returns c = shift_meets c.shift_list.ensures

@@ -1,0 +1,10 @@
+-- `tranche_losses` meets its contract.
+use Rattle.std.proofs.Common.{arith}
+use Rattle.store.specs.Stores.{store}
+use Rattle.pool.specs.Demands.{lent}
+use Rattle.pool.specs.Demands.Theorems.{tranches_meet}
+use Rattle.demands.proofs.tranche_losses.Goals as goal
+
+pub returns : goal.returns
+unfolding store lent
+returns c = tranches_meet _ (omega arith) c.tranche_losses.ensures

@@ -1,0 +1,3 @@
+-- The laws of `BetaBinomial`.
+pub mod Theorems
+pub mod Cases

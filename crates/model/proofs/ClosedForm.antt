@@ -1,0 +1,2 @@
+-- The laws of `ClosedForm`.
+pub mod Laws

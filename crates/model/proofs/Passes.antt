@@ -1,0 +1,2 @@
+-- The laws of `Passes`.
+pub mod Laws

@@ -1,0 +1,2 @@
+-- The laws of `Touching`.
+pub mod Laws

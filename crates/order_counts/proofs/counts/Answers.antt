@@ -1,0 +1,16 @@
+-- `counts` meets its contract.
+use Rattle.std.proofs.Common.{◌≡◌, refl, arith, rules}
+use Rattle.steps.proofs.Inputs.Laws.{up_to_lem}
+use Rattle.steps.specs.Counts.{exact_assets, summed_count, kept_count}
+use Rattle.working.specs.Working.Laws.{entries_same}
+use Rattle.order_counts.proofs.counts.Goals as goal
+
+pub rounded_counts-requires : goal.rounded_counts-requires
+unfolding exact_assets
+rounded_counts-requires c = record { exact = omega arith; working = search rules }
+
+pub returns-then-n-gt-EXACT_ASSETS : goal.returns-then-n-gt-EXACT_ASSETS
+unfolding exact_assets kept_count
+returns-then-n-gt-EXACT_ASSETS c =
+    entries_same c.summed_counts.ensures
+    (λ j l. up_to_lem (λ count. summed_count c.args.side c.args.n j ≡ count) exact_assets c.args.n (λ few. absurd (omega arith)) (λ _. refl))

@@ -1,0 +1,3 @@
+-- The laws of `Attachments`.
+pub mod Cases
+pub mod Laws

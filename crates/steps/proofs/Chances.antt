@@ -1,0 +1,2 @@
+-- The laws of `Chances`.
+pub mod Laws

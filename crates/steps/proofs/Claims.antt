@@ -1,0 +1,2 @@
+-- The laws of `Claims`.
+pub mod Laws

@@ -1,0 +1,2 @@
+-- The laws of `Column`.
+pub mod Laws

@@ -1,0 +1,2 @@
+-- The laws of `Rows`.
+pub mod Laws

@@ -1,0 +1,2 @@
+-- The laws of `Counts`.
+pub mod Laws

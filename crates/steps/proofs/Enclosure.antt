@@ -1,0 +1,2 @@
+-- The laws of `Enclosure`.
+pub mod Laws

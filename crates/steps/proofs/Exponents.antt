@@ -1,0 +1,2 @@
+-- The laws of `Exponents`.
+pub mod Laws

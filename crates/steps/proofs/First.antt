@@ -1,0 +1,2 @@
+-- The laws of `First`.
+pub mod Laws

@@ -1,0 +1,2 @@
+-- The laws of `Inputs`.
+pub mod Laws

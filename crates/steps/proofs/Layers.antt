@@ -1,0 +1,2 @@
+-- The laws of `Layers`.
+pub mod Laws

@@ -1,0 +1,2 @@
+-- The laws of `Loss`.
+pub mod Laws

@@ -1,0 +1,2 @@
+-- The laws of `Numbers`.
+pub mod Laws

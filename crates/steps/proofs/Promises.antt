@@ -1,0 +1,2 @@
+-- The laws of `Promises`.
+pub mod Laws

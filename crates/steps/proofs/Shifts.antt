@@ -1,0 +1,2 @@
+-- The laws of `Shifts`.
+pub mod Laws

@@ -1,0 +1,3 @@
+-- The laws of `Tranches`.
+pub mod Cases
+pub mod Laws
