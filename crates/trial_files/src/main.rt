@@ -16,12 +16,12 @@
 mod calls;
 mod data;
 mod entries;
-mod places;
+mod file_buffer;
 
 use calls::{run_read, run_write};
 use data::{run_compare, run_load};
 use entries::run_entry;
-use places::{BUFFER, run_bytes, run_put};
+use file_buffer::{BUFFER, run_bytes, run_put};
 use pool::Pool;
 use std::io;
 use std::rt::Files;
