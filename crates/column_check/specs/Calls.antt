@@ -15,7 +15,6 @@ use Rattle.store.specs.Stores.{Store}
 use Rattle.store.specs.Calls.{Fills}
 use Rattle.pool.specs.Calls.{column_refusal}
 pub mod Laws
-pub mod Demands
 
 -- What a check answers, of a row of chances in general, by the number that its grounds give: r is the exact row, c the kept chances of both sides. With what the answer means,
 -- and what holds of it.

@@ -1,7 +1,7 @@
 -- `check_column` meets its contract.
 use Rattle.store.specs.Stores.{store}
 use Rattle.pool.specs.Demands.{lent}
-use Rattle.column_check.specs.Calls.Demands.{check_meets}
+use Rattle.column_check.proofs.Calls.Demands.{check_meets}
 use Rattle.demands.proofs.check_column.Goals as goal
 
 pub returns : goal.returns

@@ -32,6 +32,7 @@ use Rattle.pool.specs.Calls.{column_refusal}
 use Rattle.pool.specs.Demands.{parts_for, one_half, one_and_a_half, two_and_a_half, claim_off, NoFurther, ClaimPasses, nearest_to, refusal_of, VerdictSays, VerdictDemands, CheckDemands}
 use Rattle.pool.proofs.Demands.Theorems.{slices, store_kept, store_meets}
 use Rattle.column_check.specs.Calls.{Checks}
+use Rattle.column_check.proofs.Calls.Distance.{off_within}
 
 -- At most so far apart, and a row that passes, with the numbers of the page and without.
 apart_meets : {off x y : Fraction} → AtMostApart off x y → NoFurther off x y
@@ -74,16 +75,6 @@ unfolding refusal_in
 refusal_meets (Refused number) = refl
 refusal_meets Passed = refl
 refusal_meets (Fails k) = refl
-
--- 1.5 units, or 2.5.
-off_within : (n : ℕ) {low high : Kept} {v : Fraction} → Enclosed (distance_for n) low high v → AtMost v certainty
-    → AtMost (plus half (exact_units (minus (value high) (value low)))) (claim_off n)
-unfolding distance_for up_to fine_pool units_of_certainty half plus integer one_and_a_half two_and_a_half claim_off
-off_within n {low} {high} {v} enclosed most =
-    up_to_both (λ g off. Enclosed g low high v → AtMost (plus half (exact_units (minus (value high) (value low)))) off) 64 n
-    (λ _ fine. at_most_trans (plus_mono at_most_refl (width_units 1 refl fine most)) (record { cross = lit≤ tt }))
-    (λ _ coarse. at_most_trans (plus_mono at_most_refl (width_units 2 refl coarse most)) (record { cross = lit≤ tt }))
-    enclosed
 
 apart_weaken : {off off' x y : Fraction} → AtMost off off' → AtMostApart off x y → AtMostApart off' x y
 apart_weaken l apart = record {

@@ -1,0 +1,3 @@
+-- The laws of `Calls`.
+pub mod Distance
+pub mod Demands
