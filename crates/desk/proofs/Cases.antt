@@ -17,7 +17,7 @@ use Rattle.working.specs.Slices.{side_store, number_at, tabulate, overwritten, e
 use Rattle.store.specs.declared.Pool.{Pool}
 use Rattle.store.specs.Stores.{Store, side_of, place}
 use Rattle.store.specs.Calls.{Fills}
-use Rattle.store.specs.Calls.Laws.{fills_head}
+use Rattle.store.proofs.Calls.Laws.{fills_head}
 use Rattle.pool.specs.Demands.{kept_zero, parts_for, Slices, lent, number_on, BoundDemands, StoreDemands, SameRow, FillDemands, ColumnDemands, DeskDemands}
 use Rattle.desk.specs.declared.Request.{Request}
 use Rattle.desk.specs.declared.DeskRow.{DeskRow}

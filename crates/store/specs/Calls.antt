@@ -13,7 +13,6 @@ use Rattle.rows.specs.Store.{stored}
 use Rattle.grounds.specs.Grounds.{first_ground, fill_grounds, row_grounds}
 use Rattle.store.specs.declared.Pool.{Pool}
 use Rattle.store.specs.Stores.{Store, lengths, place, store_after, HoldsEntries}
-pub mod Laws
 
 -- The refusal of `fill`. What it checks, every call that fills a store checks too.
 unfoldable pub fill_refusal : Pool → Store → ℕ

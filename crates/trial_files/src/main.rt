@@ -13,15 +13,15 @@
 // tools/trial_files.py writes the steps and the data files, and works the same lines out in exact whole numbers.
 #![tactic(auto)]
 
-mod buffer;
 mod calls;
 mod data;
 mod entries;
+mod file_buffer;
 
-use buffer::{BUFFER, run_bytes, run_put};
 use calls::{run_read, run_write};
 use data::{run_compare, run_load};
 use entries::run_entry;
+use file_buffer::{BUFFER, run_bytes, run_put};
 use pool::Pool;
 use std::io;
 use std::rt::Files;

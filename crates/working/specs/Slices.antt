@@ -3,7 +3,6 @@
 use Rattle.std.specs.Prelude.{ℕ, zero, suc, ◌+◌, ◌≤◌, ◌<◌, ◌≡◌, List, [], ◌∷◌, ◌++◌, map, length, get_or, set, drop, ℤ, pos}
 use Rattle.kept.specs.declared.Kept.{Kept}
 use Rattle.working.specs.Working.{working_places}
-pub mod Laws
 
 -- f 0, f 1, … f (m − 1)
 unfoldable pub tabulate : {A : Type 0} → ℕ → (ℕ → A) → List A

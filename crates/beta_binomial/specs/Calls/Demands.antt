@@ -5,7 +5,7 @@ use Rattle.model.specs.ClosedForm.{defaults_by}
 use Rattle.model.specs.BetaBinomial.{beta_defaults}
 use Rattle.steps.specs.declared.Tranche.{Tranche}
 use Rattle.steps.specs.Inputs.{up_to, largest_pool, fine_pool, distance_for}
-use Rattle.working.specs.Slices.Laws.{entries_kept, entries_length, entries_later}
+use Rattle.working.proofs.Slices.Laws.{entries_kept, entries_length, entries_later}
 use Rattle.grounds.specs.Grounds.Laws.{beta_column_accepted}
 use Rattle.expected_losses.specs.declared.Answer.{Answer}
 use Rattle.expected_losses.specs.Loss.{losses_in}

@@ -23,7 +23,7 @@ use Rattle.steps.specs.Numbers.{TailNumber, is_tail, of_tails}
 use Rattle.working.specs.Working.{working_places, Entries}
 use Rattle.working.specs.Working.Laws.{entries_more}
 use Rattle.working.specs.Slices.{entries_after}
-use Rattle.working.specs.Slices.Laws.{after_same}
+use Rattle.working.proofs.Slices.Laws.{after_same}
 use Rattle.chances.specs.Chances.{RowReady}
 use Rattle.chances.specs.Chances.Laws.{entry_operand}
 use Rattle.chances.specs.Tails.{Tails, TailsMade, Printable, TailsPrinted, Falling, difference_at, ColumnReady}

@@ -27,7 +27,7 @@ use Rattle.steps.proofs.CorrelatedBinomial.Theorems.{within}
 use Rattle.grounds.specs.Grounds.{column_grounds}
 use Rattle.store.specs.declared.Pool.{Pool}
 use Rattle.store.specs.Stores.{Store, lengths}
-use Rattle.store.specs.Calls.Laws.{fills_accepted}
+use Rattle.store.proofs.Calls.Laws.{fills_accepted}
 use Rattle.pool.specs.Calls.{column_refusal}
 use Rattle.pool.specs.Demands.{parts_for, one_half, one_and_a_half, two_and_a_half, claim_off, NoFurther, ClaimPasses, nearest_to, refusal_of, VerdictSays, VerdictDemands, CheckDemands}
 use Rattle.pool.proofs.Demands.Theorems.{slices, store_kept, store_meets}

@@ -27,7 +27,7 @@ use Rattle.claims.specs.Check.Ready.{check_ready}
 use Rattle.grounds.specs.Grounds.{first_ground, fill_grounds, entries_ground, entries_grounds, column_grounds, FillAccepted}
 use Rattle.store.specs.declared.Pool.{Pool}
 use Rattle.store.specs.Stores.{Store, lengths, store_after}
-use Rattle.store.specs.Calls.Laws.{fills_untouched, fills_filled, fills_once}
+use Rattle.store.proofs.Calls.Laws.{fills_untouched, fills_filled, fills_once}
 use Rattle.pool.specs.Calls.{column_refusal}
 use Rattle.column_check.specs.Calls.{ChecksRow, Checks}
 

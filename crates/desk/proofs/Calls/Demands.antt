@@ -18,7 +18,7 @@ use Rattle.steps.specs.CorrelatedBinomial.Exponents.{is_entry, of_rows}
 use Rattle.steps.specs.Inputs.{largest_pool, working_assets}
 use Rattle.working.specs.Working.{working_places}
 use Rattle.working.specs.Slices.{number_at}
-use Rattle.working.specs.Slices.Laws.{entries_kept, entries_at, entries_length, entries_later}
+use Rattle.working.proofs.Slices.Laws.{entries_kept, entries_at, entries_length, entries_later}
 use Rattle.grounds.specs.Grounds.{first_ground, fill_grounds, desk_grounds}
 use Rattle.grounds.specs.Grounds.Laws.{desk_accepted, desk_other_pair, desk_above_assets, desk_above_ceiling, desk_answered, desk_within}
 use Rattle.store.specs.declared.Pool.{Pool}

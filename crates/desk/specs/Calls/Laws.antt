@@ -15,7 +15,7 @@ use Rattle.steps.specs.Inputs.{largest_pool}
 use Rattle.steps.proofs.Inputs.Laws.{working_range}
 use Rattle.working.specs.Working.{working_places, Changed}
 use Rattle.working.specs.Slices.{SideStore, number_at, Readable}
-use Rattle.working.specs.Slices.Laws.{changed_entries, after_same, entries_untouched, entries_at}
+use Rattle.working.proofs.Slices.Laws.{changed_entries, after_same, entries_untouched, entries_at}
 use Rattle.grounds.specs.Grounds.{DeskAccepted}
 use Rattle.grounds.specs.Grounds.Laws.{desk_accepted}
 use Rattle.store.specs.declared.Pool.{Pool}
@@ -23,7 +23,7 @@ use Rattle.store.specs.Stores.{Store, lengths, side_of, place}
 use Rattle.store.specs.Stores.Laws.{place_triangle, enclosed_same}
 use Rattle.store.specs.Filling.Laws.{fillable}
 use Rattle.store.specs.Calls.{Fills}
-use Rattle.store.specs.Calls.Laws.{fills_head}
+use Rattle.store.proofs.Calls.Laws.{fills_head}
 use Rattle.desk.specs.declared.Request.{Request}
 use Rattle.desk.specs.declared.DeskRow.{DeskRow}
 use Rattle.desk.specs.Calls.{desk_refusal, row_on, row_handed, SameNumbers, HoldsRow, ReadsRow}

@@ -16,7 +16,7 @@ use Rattle.std.proofs.lemmas.List.{length-map}
 use Rattle.std.proofs.Math.Seq.{drop-append_seam}
 use mir.Syntax.{w32}
 use mir.Val.{SFits}
-use Rattle.working.specs.Slices.Laws.{length_tabulate, get_d_tabulate}
+use Rattle.working.proofs.Slices.Laws.{length_tabulate, get_d_tabulate}
 use Rattle.planes.specs.Planes.{byte_of, planes, byte_in, word_at, words, laid, arrays_in, pattern, signed, AreBytes, AreWords, AreIntegers}
 
 -- ---- a number and its four bytes

@@ -8,7 +8,7 @@ use Rattle.std.proofs.Math.ListN.{length, length-map}
 use Rattle.kept.specs.declared.Kept.{Kept}
 use Rattle.kept.specs.Rounding.{nought}
 use Rattle.working.specs.Slices.{tabulate, SideStore, number_at, HasPlaces, SameLengths, Stored}
-use Rattle.working.specs.Slices.Laws.{length_tabulate, get_d_tabulate, tabulate_same, overwritten_field, overwritten_length, overwritten_later, holding_none}
+use Rattle.working.proofs.Slices.Laws.{length_tabulate, get_d_tabulate, tabulate_same, overwritten_field, overwritten_length, overwritten_later, holding_none}
 use Rattle.buffer.specs.Stores.{HasRoom, Puts, puts_none, puts_both, puts_length}
 use Rattle.planes.specs.declared.words.Part.{Part}
 use Rattle.planes.specs.declared.words.Part.TheVariants.{Significand, Exponent}

@@ -40,7 +40,7 @@ use Rattle.steps.specs.Chances.{kept_tail, kept_loss}
 use Rattle.expected_losses.specs.Loss.{loss_of, losses_in}
 use Rattle.expected_losses.specs.Loss.Laws.{one_loss}
 use Rattle.working.specs.Slices.{overwritten, entries_after, number_at}
-use Rattle.working.specs.Slices.Laws.{overwritten_length, overwritten_later, entries_kept, entries_length, entries_later}
+use Rattle.working.proofs.Slices.Laws.{overwritten_length, overwritten_later, entries_kept, entries_length, entries_later}
 use Rattle.rows.specs.Store.{filled_side, stored}
 use Rattle.rows.specs.Store.Laws.{stored_length}
 use Rattle.grounds.specs.Grounds.{Ground, first_ground, column_grounds, EachAtLeast}
@@ -53,7 +53,7 @@ use Rattle.expected_losses.specs.declared.Answer.{Answer}
 use Rattle.layer_losses.specs.declared.LayerAnswer.{LayerAnswer}
 use Rattle.store.specs.Stores.{Store, store, lengths, side_of, place, store_after}
 use Rattle.store.specs.Calls.{Fills, fill_refusal, HandsRow, row_refusal}
-use Rattle.store.specs.Calls.Laws.{fills_kept, fills_head, fills_accepted}
+use Rattle.store.proofs.Calls.Laws.{fills_kept, fills_head, fills_accepted}
 use Rattle.pool.specs.Calls.{column_refusal, Prints, loss_refusal, RepliesLosses, Replies, layer_refusal, LayerReplies}
 use Rattle.pool.specs.Demands.{kept_zero, parts_for, BoundDemands, StepsDemands, one_half, PrintedDemands, one_and_a_half, units_off, Demand3Column, Slices, significands_on, lent, number_on, lengths_of, from, TableDemands, StoreDemands, edge, BitsDemands, LossDemands, AnswerDemands, TrancheDemands, given_at, loss_at, Touch, Carries, CarriesTwo, loss_of_pool, added_up, SharedDemands, LossesDemands}
 use Rattle.pool.specs.Demands.{FillDemands, RowDemands, EntriesDemands, ColumnDemandsBy, ColumnDemands, TranchesDemandsBy, TranchesDemands, LayerLossDemands, LayerDemands}

@@ -25,7 +25,7 @@ use Rattle.steps.specs.CorrelatedBinomial.Rows.{kept_row}
 use Rattle.steps.proofs.CorrelatedBinomial.Theorems.{within, placed, pool_budgets, answers}
 use Rattle.working.specs.Working.{working_places, Entries}
 use Rattle.working.specs.Slices.{entries_after}
-use Rattle.working.specs.Slices.Laws.{entries_at, entries_untouched}
+use Rattle.working.proofs.Slices.Laws.{entries_at, entries_untouched}
 use Rattle.chances.specs.Tails.{ColumnReady}
 use Rattle.chances.specs.Chances.{OnSides}
 use Rattle.expected_losses.specs.Loss.{TranchesReady}
@@ -37,7 +37,7 @@ use Rattle.grounds.specs.Grounds.{first_ground, TranchesAccepted}
 use Rattle.grounds.specs.Grounds.Laws.{loss_accepted, loss_grounds_within}
 use Rattle.store.specs.declared.Pool.{Pool}
 use Rattle.store.specs.Stores.{Store}
-use Rattle.store.specs.Calls.Laws.{fills_untouched, fills_once, fills_apart}
+use Rattle.store.proofs.Calls.Laws.{fills_untouched, fills_once, fills_apart}
 use Rattle.pool.specs.Calls.{PrintsRow, RepliesLosses, RepliesLayer, column_refusal, Prints, loss_refusal, Replies, layer_refusal, LayerReplies}
 
 -- ---- a row of chances in general

@@ -2,7 +2,7 @@
 use Rattle.std.proofs.Common.{arith}
 use Rattle.model.specs.Fraction.{whole, complement}
 use Rattle.steps.specs.CorrelatedBinomial.Rows.{constant, kept_power}
-use Rattle.working.specs.Slices.Laws.{stored_none}
+use Rattle.working.proofs.Slices.Laws.{stored_none}
 use Rattle.rows.specs.Turns.Laws.{weight_operands, weighing_more}
 use Rattle.rows.proofs.weights.Goals as goal
 

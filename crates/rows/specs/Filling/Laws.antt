@@ -14,7 +14,7 @@ use Rattle.steps.specs.CorrelatedBinomial.Rows.{kept_row}
 use Rattle.steps.specs.Inputs.{working_assets}
 use Rattle.working.specs.Working.{working_places, Entries}
 use Rattle.working.specs.Slices.{SideStore, side_store, with_number, HasPlaces, SameLengths, Holding, Stored}
-use Rattle.working.specs.Slices.Laws.{holding_none}
+use Rattle.working.proofs.Slices.Laws.{holding_none}
 use Rattle.rows.specs.Turns.Rows.{first_stored}
 use Rattle.rows.specs.Store.{rows_before, stored, filled_side}
 use Rattle.rows.specs.Filling.{Fillable, Filled}

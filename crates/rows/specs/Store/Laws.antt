@@ -14,7 +14,7 @@ use Rattle.kept.specs.declared.Side.{Side}
 use Rattle.kept.specs.Rounding.{nought}
 use Rattle.steps.specs.CorrelatedBinomial.Rows.{kept_row}
 use Rattle.working.specs.Slices.{overwritten}
-use Rattle.working.specs.Slices.Laws.{length_tabulate, get_d_tabulate, overwritten_field}
+use Rattle.working.proofs.Slices.Laws.{length_tabulate, get_d_tabulate, overwritten_field}
 use Rattle.rows.specs.Store.{rows_before, stored}
 
 module _ (side : Side) (p ρ : ℕ) where

@@ -23,7 +23,7 @@ use Rattle.steps.proofs.Inputs.Laws.{range_below}
 use Rattle.working.specs.Working.{working_places, Entries, Changed}
 use Rattle.working.specs.Working.Laws.{changed_none, changed_more}
 use Rattle.working.specs.Slices.{SideStore, number_at, with_number, HasPlaces, Stored}
-use Rattle.working.specs.Slices.Laws.{standing_start, stored_none, stored_more}
+use Rattle.working.proofs.Slices.Laws.{standing_start, stored_none, stored_more}
 use Rattle.rows.specs.declared.Recurrence.{Recurrence}
 use Rattle.rows.specs.Turns.{recurrence, Continuable, Continued, Weighable, Passable, Passed, MadeFrom, Turnable, Turned}
 

@@ -12,7 +12,7 @@ use Rattle.steps.proofs.Inputs.Laws.{range_below}
 use Rattle.working.specs.Working.{working_places, Entries}
 use Rattle.working.specs.Working.Laws.{entries_same}
 use Rattle.working.specs.Slices.{SideStore, with_number, number_at, HasPlaces, Standing, Readable, Stored}
-use Rattle.working.specs.Slices.Laws.{stored_none, stored_more, stored_standing, stored_start}
+use Rattle.working.proofs.Slices.Laws.{stored_none, stored_more, stored_standing, stored_start}
 use Rattle.rows.specs.declared.Recurrence.{Recurrence}
 use Rattle.rows.specs.Turns.{recurrence, Continuable, Continued, MadeFrom, Turnable, Turned}
 

@@ -4,11 +4,11 @@ use Rattle.steps.specs.CorrelatedBinomial.{kept_defaults}
 use Rattle.steps.proofs.CorrelatedBinomial.Theorems.{pool_budgets, steps_hold}
 use Rattle.steps.specs.Inputs.{report_pool}
 use Rattle.steps.proofs.Inputs.Laws.{range_uncorrelated, report_range, working_range}
-use Rattle.working.specs.Slices.Laws.{entries_untouched}
+use Rattle.working.proofs.Slices.Laws.{entries_untouched}
 use Rattle.grounds.specs.Grounds.{first_ground, shift_grounds, four_lengths, EntriesAccepted}
 use Rattle.grounds.specs.Grounds.Laws.{entries_accepted, report_fill_accepted}
 use Rattle.store.specs.Stores.{store, lengths}
-use Rattle.store.specs.Calls.Laws.{fills_untouched, fills_filled}
+use Rattle.store.proofs.Calls.Laws.{fills_untouched, fills_filled}
 use Rattle.pool.specs.Calls.Laws.{column_is_ready}
 use Rattle.shift.specs.Calls.{shift_refusal}
 use Rattle.shift.specs.Calls.Laws.{listed_holds}

@@ -10,7 +10,7 @@ use Rattle.steps.proofs.CorrelatedBinomial.Theorems.{shifts}
 use Rattle.steps.specs.Inputs.{report_pool, shift_tenths, InRange}
 use Rattle.steps.specs.Promises.{HoldsShifts}
 use Rattle.working.specs.Slices.{entries_after}
-use Rattle.working.specs.Slices.Laws.{entries_at}
+use Rattle.working.proofs.Slices.Laws.{entries_at}
 
 pub listed_holds : {n p ρ : ℕ} → InRange report_pool n p ρ → 0 < n → (old : List ℤ) {new : List ℤ}
     → new ≡ entries_after n (tail_shift n (kept_defaults Low n p ρ) (kept_defaults Low n p 0)) 0 old

@@ -7,7 +7,7 @@ use Rattle.steps.specs.Column.{printed_tail}
 use Rattle.steps.proofs.Column.Laws.{printed_at_most}
 use Rattle.steps.specs.Shifts.{tail_shift}
 use Rattle.working.specs.Slices.{entries_after}
-use Rattle.working.specs.Slices.Laws.{after_same}
+use Rattle.working.proofs.Slices.Laws.{after_same}
 use Rattle.chances.specs.Tails.{Tails, ColumnReady, RowTailsPrinted}
 use Rattle.shift.specs.Differences.{InUnits, shift_at}
 

@@ -25,7 +25,7 @@ use Rattle.store.specs.declared.Pool.{Pool}
 use Rattle.store.specs.Stores.{Store, lengths, side_of, place, HoldsEntries}
 use Rattle.store.specs.Stores.Laws.{place_triangle, enclosed_same}
 use Rattle.store.specs.Calls.{head_after, Fills}
-use Rattle.store.specs.Calls.Laws.{head_untouched, fills_head, fills_accepted}
+use Rattle.store.proofs.Calls.Laws.{head_untouched, fills_head, fills_accepted}
 use Rattle.store_file.specs.Files.{file_arrays, file_of, head_in, entry_in, entries_in, store_with}
 use Rattle.store_file.specs.Files.Laws.{laid_bytes, head_read, entry_read, file_from_parts, entry_fits, side_from}
 use Rattle.store_file.specs.Calls.Rooms.{StoreRoom, form_room, file_places}

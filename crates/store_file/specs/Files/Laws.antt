@@ -10,7 +10,7 @@ use Rattle.kept.specs.declared.Kept.{Kept}
 use Rattle.kept.specs.declared.Side.{Side}
 use Rattle.kept.specs.declared.Side.TheVariants.{Low, High}
 use Rattle.working.specs.Slices.{tabulate}
-use Rattle.working.specs.Slices.Laws.{get_d_tabulate, tabulate_same}
+use Rattle.working.proofs.Slices.Laws.{get_d_tabulate, tabulate_same}
 use Rattle.planes.specs.declared.words.Part.{Part}
 use Rattle.planes.specs.declared.words.Part.TheVariants.{Significand, Exponent}
 use Rattle.planes.specs.Planes.{laid, arrays_in, words, word_at, signed, AreBytes, AreWords}

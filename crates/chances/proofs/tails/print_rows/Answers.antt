@@ -2,7 +2,7 @@
 use Rattle.std.proofs.Common.{refl, arith}
 use Rattle.steps.specs.Inputs.{working_assets}
 use Rattle.working.specs.Working.Laws.{changed_none, changed_more}
-use Rattle.working.specs.Slices.Laws.{changed_entries}
+use Rattle.working.proofs.Slices.Laws.{changed_entries}
 use Rattle.chances.proofs.tails.print_rows.Goals as goal
 
 pub bounds-printed-k : goal.bounds-printed-k

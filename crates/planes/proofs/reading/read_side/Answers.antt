@@ -1,6 +1,6 @@
 -- `read_side` meets its contract.
 use Rattle.std.proofs.Common.{zero-add, le_antisymm, arith}
-use Rattle.working.specs.Slices.Laws.{stored_none, stored_more}
+use Rattle.working.proofs.Slices.Laws.{stored_none, stored_more}
 use Rattle.planes.specs.Sides.Laws.{side_after_lem}
 use Rattle.planes.proofs.reading.read_side.Goals as goal
 

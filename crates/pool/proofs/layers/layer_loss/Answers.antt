@@ -8,7 +8,7 @@ use Rattle.steps.specs.CorrelatedBinomial.Rows.{kept_row}
 use Rattle.steps.proofs.CorrelatedBinomial.Theorems.{pool_budgets, layer_answers}
 use Rattle.steps.specs.Inputs.{largest_pool}
 use Rattle.store.specs.Stores.{store, lengths}
-use Rattle.store.specs.Calls.Laws.{fills_filled}
+use Rattle.store.proofs.Calls.Laws.{fills_filled}
 use Rattle.pool.specs.Calls.{layer_refusal}
 use Rattle.pool.specs.Calls.Laws.{layer_is_ready, layer_replied, layer_replies_untouched}
 use Rattle.pool.proofs.layers.layer_loss.Goals as goal

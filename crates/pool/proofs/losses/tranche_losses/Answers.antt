@@ -8,7 +8,7 @@ use Rattle.steps.specs.CorrelatedBinomial.{kept_defaults}
 use Rattle.steps.proofs.CorrelatedBinomial.Theorems.{pool_budgets, answers}
 use Rattle.steps.specs.Inputs.{largest_pool}
 use Rattle.store.specs.Stores.{store, lengths}
-use Rattle.store.specs.Calls.Laws.{fills_filled}
+use Rattle.store.proofs.Calls.Laws.{fills_filled}
 use Rattle.pool.specs.Calls.{loss_refusal}
 use Rattle.pool.specs.Calls.Laws.{tranches_are_ready, reply_answered, replies_untouched}
 use Rattle.pool.proofs.losses.tranche_losses.Goals as goal

@@ -7,7 +7,7 @@ use Rattle.steps.specs.CorrelatedBinomial.{kept_defaults}
 use Rattle.steps.proofs.CorrelatedBinomial.Theorems.{column}
 use Rattle.steps.specs.Inputs.{largest_pool}
 use Rattle.store.specs.Stores.{store, lengths}
-use Rattle.store.specs.Calls.Laws.{fills_filled}
+use Rattle.store.proofs.Calls.Laws.{fills_filled}
 use Rattle.pool.specs.Calls.{column_refusal}
 use Rattle.pool.specs.Calls.Laws.{column_is_ready, row_printed, prints_untouched}
 use Rattle.pool.proofs.printing.column.Goals as goal

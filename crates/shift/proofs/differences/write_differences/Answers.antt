@@ -1,7 +1,7 @@
 -- `differences::write_differences` meets its contract.
 use Rattle.std.proofs.Common.{pos, arith}
 use Rattle.steps.specs.Inputs.{working_assets}
-use Rattle.working.specs.Slices.Laws.{changed_entries}
+use Rattle.working.proofs.Slices.Laws.{changed_entries}
 use Rattle.shift.proofs.differences.write_differences.Goals as goal
 
 pub bounds-printed-k : goal.bounds-printed-k

@@ -5,7 +5,7 @@ use Rattle.grounds.specs.Grounds.Laws.{fill_accepted}
 use Rattle.steps.specs.Inputs.{largest_pool}
 use Rattle.store.specs.Stores.{store, lengths}
 use Rattle.store.specs.Calls.{fill_refusal}
-use Rattle.store.specs.Calls.Laws.{fills_untouched, fills_filled}
+use Rattle.store.proofs.Calls.Laws.{fills_untouched, fills_filled}
 use Rattle.store.proofs.filling.fill.Goals as goal
 
 pub returns-then-refusal-ne0 : goal.returns-then-refusal-ne0

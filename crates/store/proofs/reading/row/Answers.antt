@@ -5,7 +5,7 @@ use Rattle.steps.specs.Inputs.{largest_pool}
 use Rattle.store.specs.Stores.{place}
 use Rattle.store.specs.Stores.Laws.{place_triangle}
 use Rattle.store.specs.Calls.{row_refusal}
-use Rattle.store.specs.Calls.Laws.{hands_row, row_within, part_refused, part_accepted}
+use Rattle.store.proofs.Calls.Laws.{hands_row, row_within, part_refused, part_accepted}
 use Rattle.store.proofs.reading.row.Goals as goal
 
 -- Where row k starts.

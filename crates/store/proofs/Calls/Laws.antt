@@ -16,7 +16,7 @@ use Rattle.steps.specs.CorrelatedBinomial.Rows.{kept_row}
 use Rattle.steps.proofs.CorrelatedBinomial.Theorems.{pool_budgets, steps_hold}
 use Rattle.steps.specs.Inputs.{largest_pool, distance_for}
 use Rattle.working.specs.Slices.{tabulate, overwritten}
-use Rattle.working.specs.Slices.Laws.{length_tabulate, get_d_tabulate}
+use Rattle.working.proofs.Slices.Laws.{length_tabulate, get_d_tabulate}
 use Rattle.rows.specs.Store.{stored}
 use Rattle.rows.specs.Store.Laws.{filled_entry}
 use Rattle.grounds.specs.Grounds.{FillAccepted}

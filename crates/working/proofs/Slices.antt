@@ -1,0 +1,2 @@
+-- The laws of `Slices`.
+pub mod Laws
