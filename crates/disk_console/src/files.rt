@@ -22,7 +22,7 @@ pub(crate) fn name_too_long() -> io::Error {
     io::Error::from_raw_os_error(NAME_TOO_LONG)
 }
 
-// The text of a path, since the library takes no other. A path that the system could not be given has the error for it.
+// A path as the library takes it, as text. One that is no text, or that the system cannot be given, makes the error that says so.
 fn path_text(path: &[u8]) -> io::Result<&str> {
     if path.len() >= TOO_LONG {
         return Err(name_too_long());
