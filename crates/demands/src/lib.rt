@@ -35,7 +35,7 @@ pub fn fill(
     )
 }
 
-#[tactic(auto, unfolding(store::specs::Calls::row_refusal, steps::specs::Inputs::largest_pool), using(pool::specs::Demands::Theorems::row_meets))]
+#[tactic(auto, unfolding(store::specs::Calls::row_refusal, steps::specs::Inputs::largest_pool), using(pool::proofs::Demands::Theorems::row_meets))]
 pub fn row(n: u32, k: u32, significands: &[u32]) -> &[u32]
     ensures { (refusal : ℕ) → refusal ≡ first_ground (row_grounds 100 n k (length significands.now)) → RowDemands n k significands.now result.now refusal }
 {

@@ -19,7 +19,6 @@ use Rattle.store.specs.Calls.{Fills}
 use Rattle.desk.specs.declared.Request.{Request}
 use Rattle.desk.specs.declared.DeskRow.{DeskRow}
 pub mod Laws
-pub mod Demands
 
 unfoldable pub desk_refusal : (head : Pool) → Request → (ceiling : ℕ) → Store → ℕ
 desk_refusal head request ceiling s =

@@ -46,8 +46,6 @@ use Rattle.expected_losses.specs.declared.Answer.{Answer}
 use Rattle.expected_losses.specs.Loss.{losses_in}
 use Rattle.layer_losses.specs.declared.LayerAnswer.{LayerAnswer}
 use Rattle.pool.specs.Calls.{column_refusal, Prints, loss_refusal, Replies}
-pub mod Theorems
-pub mod Cases
 
 -- ---- the demands
 

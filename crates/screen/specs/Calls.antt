@@ -9,7 +9,6 @@ use Rattle.store.specs.declared.Pool.{Pool}
 use Rattle.store.specs.Stores.{Store, lengths}
 use Rattle.pool.specs.Calls.{column_refusal, Prints, loss_refusal, Replies}
 pub mod Laws
-pub mod Demands
 
 -- ---- column
 

@@ -15,7 +15,6 @@ use Rattle.store.specs.declared.Pool.{Pool}
 use Rattle.store.specs.Stores.{Store, lengths}
 use Rattle.store.specs.Calls.{Fills}
 pub mod Laws
-pub mod Demands
 
 unfoldable pub shift_refusal : Pool → Store → List ℤ → ℕ
 shift_refusal pool s shifts =

@@ -1,5 +1,5 @@
 // The two calls, on the first places of the arrays and of the buffer.
-use super::file_buffer::{BUFFER, first_bytes, lent_bytes, write_buffer};
+use super::places::{BUFFER, first_bytes, lent_bytes, write_buffer};
 use pool::{Filled, Pool};
 use std::io;
 use trial_inputs::given::{read_length, read_lengths};

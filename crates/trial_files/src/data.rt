@@ -1,5 +1,5 @@
 // Files of bytes that were made outside Rattle. The name of one is the assets of its pool, in three digits.
-use super::file_buffer::BUFFER;
+use super::places::BUFFER;
 use std::io::Read;
 use std::rt::Files;
 use std::{fs, io};

@@ -16,12 +16,12 @@
 mod calls;
 mod data;
 mod entries;
-mod file_buffer;
+mod places;
 
 use calls::{run_read, run_write};
 use data::{run_compare, run_load};
 use entries::run_entry;
-use file_buffer::{BUFFER, run_bytes, run_put};
+use places::{BUFFER, run_bytes, run_put};
 use pool::Pool;
 use std::io;
 use std::rt::Files;

@@ -11,7 +11,7 @@ use Rattle.expected_losses.specs.declared.Answer.{Answer}
 use Rattle.expected_losses.specs.Loss.{losses_in}
 use Rattle.store.specs.declared.Pool.{Pool}
 use Rattle.pool.specs.Demands.{parts_for, BetaRowDemands, BetaColumnDemands, BetaTranchesDemands}
-use Rattle.pool.specs.Demands.Theorems.{bounds_meet, steps_meet, rows_meet, losses_meet}
+use Rattle.pool.proofs.Demands.Theorems.{bounds_meet, steps_meet, rows_meet, losses_meet}
 use Rattle.beta_binomial.specs.Calls.{HoldsBeta, beta_column_refusal, BetaPrints, beta_loss_refusal, BetaReplies}
 
 row_meets : {pool : Pool} → HoldsBeta pool.assets pool.probability pool.correlation → BetaRowDemands pool (parts_for pool.assets)

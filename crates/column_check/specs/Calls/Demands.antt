@@ -30,7 +30,7 @@ use Rattle.store.specs.Stores.{Store, lengths}
 use Rattle.store.specs.Calls.Laws.{fills_accepted}
 use Rattle.pool.specs.Calls.{column_refusal}
 use Rattle.pool.specs.Demands.{parts_for, one_half, one_and_a_half, two_and_a_half, claim_off, NoFurther, ClaimPasses, nearest_to, refusal_of, VerdictSays, VerdictDemands, CheckDemands}
-use Rattle.pool.specs.Demands.Theorems.{slices, store_kept, store_meets}
+use Rattle.pool.proofs.Demands.Theorems.{slices, store_kept, store_meets}
 use Rattle.column_check.specs.Calls.{Checks}
 
 -- At most so far apart, and a row that passes, with the numbers of the page and without.

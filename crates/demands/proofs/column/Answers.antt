@@ -1,7 +1,7 @@
 -- `column` meets its contract.
 use Rattle.store.specs.Stores.{store}
 use Rattle.pool.specs.Demands.{lent}
-use Rattle.pool.specs.Demands.Theorems.{column_meets}
+use Rattle.pool.proofs.Demands.Theorems.{column_meets}
 use Rattle.demands.proofs.column.Goals as goal
 
 pub returns : goal.returns

@@ -1,7 +1,7 @@
 -- `desk_read` meets its contract.
 use Rattle.store.specs.Stores.{store}
 use Rattle.pool.specs.Demands.{lent}
-use Rattle.desk.specs.Calls.Demands.{desk_meets}
+use Rattle.desk.proofs.Calls.Demands.{desk_meets}
 use Rattle.demands.proofs.desk_read.Goals as goal
 
 pub returns : goal.returns

@@ -1,7 +1,7 @@
 -- `fill` meets its contract.
 use Rattle.store.specs.Stores.{store}
 use Rattle.pool.specs.Demands.{lent}
-use Rattle.pool.specs.Demands.Theorems.{fill_meets}
+use Rattle.pool.proofs.Demands.Theorems.{fill_meets}
 use Rattle.demands.proofs.fill.Goals as goal
 
 pub returns : goal.returns

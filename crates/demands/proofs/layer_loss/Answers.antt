@@ -1,7 +1,7 @@
 -- `layer_loss` meets its contract.
 use Rattle.store.specs.Stores.{store}
 use Rattle.pool.specs.Demands.{lent}
-use Rattle.pool.specs.Demands.Theorems.{layer_meets}
+use Rattle.pool.proofs.Demands.Theorems.{layer_meets}
 use Rattle.demands.proofs.layer_loss.Goals as goal
 
 pub returns : goal.returns

@@ -1,7 +1,7 @@
 -- `screen_column` meets its contract.
 use Rattle.store.specs.Stores.{store}
 use Rattle.pool.specs.Demands.{lent}
-use Rattle.screen.specs.Calls.Demands.{screen_column_meets}
+use Rattle.screen.proofs.Calls.Demands.{screen_column_meets}
 use Rattle.demands.proofs.screen_column.Goals as goal
 
 pub returns : goal.returns

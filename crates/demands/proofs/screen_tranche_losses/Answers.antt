@@ -2,7 +2,7 @@
 use Rattle.std.proofs.Common.{arith}
 use Rattle.store.specs.Stores.{store}
 use Rattle.pool.specs.Demands.{lent}
-use Rattle.screen.specs.Calls.Demands.{screen_tranches_meet}
+use Rattle.screen.proofs.Calls.Demands.{screen_tranches_meet}
 use Rattle.demands.proofs.screen_tranche_losses.Goals as goal
 
 pub returns : goal.returns

@@ -1,7 +1,7 @@
 -- `shift_list` meets its contract.
 use Rattle.store.specs.Stores.{store}
 use Rattle.pool.specs.Demands.{lent}
-use Rattle.shift.specs.Calls.Demands.{shift_meets}
+use Rattle.shift.proofs.Calls.Demands.{shift_meets}
 use Rattle.demands.proofs.shift_list.Goals as goal
 
 pub returns : goal.returns

@@ -2,7 +2,7 @@
 use Rattle.std.proofs.Common.{arith}
 use Rattle.store.specs.Stores.{store}
 use Rattle.pool.specs.Demands.{lent}
-use Rattle.pool.specs.Demands.Theorems.{tranches_meet}
+use Rattle.pool.proofs.Demands.Theorems.{tranches_meet}
 use Rattle.demands.proofs.tranche_losses.Goals as goal
 
 pub returns : goal.returns

@@ -33,7 +33,7 @@ use Rattle.store.specs.Stores.{Store, store, lengths, side_of, place}
 use Rattle.store.specs.Stores.Laws.{place_triangle}
 use Rattle.pool.specs.Demands.{kept_zero, Slices, lent, store_of, lengths_of, number_on, from, StoreDemands, TableDemands, byte_from, complement, from_complement, table_places}
 use Rattle.pool.specs.Demands.{number_from, head_of, entry_from, entry_of, EntryDemands, RoomDemands, SameEntries, FileDemands, WrittenDemands, WriteDemands, ReadDemands}
-use Rattle.pool.specs.Demands.Theorems.{slices}
+use Rattle.pool.proofs.Demands.Theorems.{slices}
 use Rattle.store_file.specs.Calls.Rooms.{file_places}
 use Rattle.store_file.specs.Files.{file_arrays, file_of, head_in, entry_in, entries_in, store_with}
 use Rattle.store_file.specs.Files.Laws.{side_from, head_parts, file_from_parts}

@@ -24,7 +24,7 @@ use Rattle.grounds.specs.Grounds.Laws.{desk_accepted, desk_other_pair, desk_abov
 use Rattle.store.specs.declared.Pool.{Pool}
 use Rattle.store.specs.Stores.{Store, lengths, side_of, place}
 use Rattle.pool.specs.Demands.{kept_zero, Slices, lengths_of, number_on, BoundDemands, StoreDemands, SameRow, row_of, DeskRowDemands, DeskDemands}
-use Rattle.pool.specs.Demands.Theorems.{slices}
+use Rattle.pool.proofs.Demands.Theorems.{slices}
 use Rattle.desk.specs.declared.Request.{Request}
 use Rattle.desk.specs.declared.DeskRow.{DeskRow}
 use Rattle.desk.specs.Calls.{desk_refusal, row_on, row_handed, ReadsRow}

@@ -19,7 +19,7 @@ use Rattle.grounds.specs.Grounds.Laws.{entries_accepted}
 use Rattle.store.specs.declared.Pool.{Pool}
 use Rattle.store.specs.Stores.{Store, lengths}
 use Rattle.pool.specs.Demands.{parts_for, one_and_three_tenths, Demand3Shifts, ShiftDemands}
-use Rattle.pool.specs.Demands.Theorems.{slices, steps_meet, entries_meet, printed_meet}
+use Rattle.pool.proofs.Demands.Theorems.{slices, steps_meet, entries_meet, printed_meet}
 use Rattle.shift.specs.Calls.{shift_refusal, ListsShifts}
 
 -- A shift list of any two rows whose offset is 1.3 units at most.

@@ -12,7 +12,7 @@ use Rattle.store.specs.Stores.{Store, store, lengths}
 use Rattle.pool.specs.Calls.{column_refusal, loss_refusal}
 use Rattle.pool.specs.Calls.Laws.{prints_once, replies_once}
 use Rattle.pool.specs.Demands.{ScreenColumnDemands, ScreenTranchesDemands}
-use Rattle.pool.specs.Demands.Theorems.{slices, column_meets_by, tranches_meet_by}
+use Rattle.pool.proofs.Demands.Theorems.{slices, column_meets_by, tranches_meet_by}
 use Rattle.screen.specs.Calls.{screen_column_refusal, ScreenPrints, screen_loss_refusal, ScreenReplies}
 
 pub screen_column_meets : {pool head head' : Pool} {before after : Store} {units units' : List ℕ} {refusal : ℕ}

@@ -1,0 +1,2 @@
+-- The laws of `Calls`.
+pub mod Demands

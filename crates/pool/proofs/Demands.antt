@@ -1,0 +1,3 @@
+-- The laws of `Demands`.
+pub mod Theorems
+pub mod Cases
