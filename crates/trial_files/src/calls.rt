@@ -1,9 +1,5 @@
 // The two calls, on the first places of the arrays and of the buffer.
-<<<<<<< HEAD
 use super::file_buffer::{BUFFER, first_bytes, lent_bytes, write_buffer};
-=======
-use super::places::{BUFFER, first_bytes, lent_bytes, write_buffer};
->>>>>>> b4fadf73ef358788c7aac21f1c1e0f9a4590dc3a
 use pool::{Filled, Pool};
 use std::io;
 use trial_inputs::given::{read_length, read_lengths};

@@ -1,9 +1,5 @@
 // Files of bytes that were made outside Rattle. The name of one is the assets of its pool, in three digits.
-<<<<<<< HEAD
 use super::file_buffer::BUFFER;
-=======
-use super::places::BUFFER;
->>>>>>> b4fadf73ef358788c7aac21f1c1e0f9a4590dc3a
 use std::io::Read;
 use std::rt::Files;
 use std::{fs, io};

@@ -16,20 +16,12 @@
 mod calls;
 mod data;
 mod entries;
-<<<<<<< HEAD
 mod file_buffer;
-=======
-mod places;
->>>>>>> b4fadf73ef358788c7aac21f1c1e0f9a4590dc3a
 
 use calls::{run_read, run_write};
 use data::{run_compare, run_load};
 use entries::run_entry;
-<<<<<<< HEAD
 use file_buffer::{BUFFER, run_bytes, run_put};
-=======
-use places::{BUFFER, run_bytes, run_put};
->>>>>>> b4fadf73ef358788c7aac21f1c1e0f9a4590dc3a
 use pool::Pool;
 use std::io;
 use std::rt::Files;
