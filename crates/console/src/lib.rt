@@ -8,6 +8,7 @@ ghost use Rattle.reply.specs.Reply.{AnswersInput};
 use std::io;
 use std::io::{Read, Write};
 
+// Its errors are those of the reader, with nothing written, and of the writer, which may have taken the first bytes of the reply.
 pub fn answer_from<R: Read, W: Write>(input: &mut R, output: &mut W) -> io::Result<()>
     ensures { OnOk result (IfSome (R.remaining input.old) (λ bytes. (text : List ℕ) × AnswersInput bytes text
         × Appends (W.contents output.old) (W.contents output.new) text)) }

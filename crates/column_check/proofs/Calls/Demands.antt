@@ -1,10 +1,10 @@
 -- The contract of the check implies what is demanded of it.
 -- Assumes nothing.
-use Rattle.std.specs.Prelude.{ℕ, ◌+◌, ◌-◌, ◌*◌, ◌/◌, ◌≤◌, ◌≡◌, refl, List}
-use Rattle.std.proofs.Common.{sym, ◌∙◌, arith, lit≤}
+use Rattle.std.specs.Prelude.{ℕ, ◌+◌, ◌-◌, ◌*◌, ◌/◌, ◌≡◌, refl, List}
+use Rattle.std.proofs.Common.{sym, ◌∙◌, arith}
 use Rattle.std.proofs.Math.Decide.{dec_le}
 use Rattle.std.proofs.Math.Nat.{div-eq_of_lt}
-use Rattle.model.specs.Fraction.{Fraction, AtMost, certainty, integer, plus, minus}
+use Rattle.model.specs.Fraction.{Fraction, AtMost, plus, minus}
 use Rattle.model.specs.Fraction.Laws.{at_most_refl, at_most_trans, plus_mono}
 use Rattle.model.specs.Chances.{Chances, Complete, chance}
 use Rattle.model.proofs.Chances.Laws.{chance_at_most_one}
@@ -12,16 +12,12 @@ use Rattle.model.specs.CorrelatedBinomial.{defaults}
 use Rattle.kept.specs.declared.Kept.{Kept}
 use Rattle.kept.specs.declared.Side.{Side}
 use Rattle.kept.specs.declared.Side.TheVariants.{Low, High}
-use Rattle.kept.specs.Rounding.{value}
 use Rattle.kept.specs.Whole.{whole_of}
 use Rattle.steps.specs.Column.{units_of_certainty, exact_units, half, to_nearest, AtMostApart}
 use Rattle.steps.specs.declared.Verdict.{Verdict}
 use Rattle.steps.specs.declared.Verdict.TheVariants.{Refused, Passed, Fails}
 use Rattle.steps.specs.Claims.{Passes, refusal_in, Means}
-use Rattle.steps.proofs.Claims.Laws.{width_units}
-use Rattle.steps.specs.Enclosure.{Enclosed}
 use Rattle.steps.specs.Inputs.{largest_pool, up_to, fine_pool, distance_for}
-use Rattle.steps.proofs.Inputs.Laws.{up_to_both}
 use Rattle.steps.specs.Promises.{RowEnclosed, HoldsVerdict}
 use Rattle.steps.proofs.CorrelatedBinomial.Theorems.{within}
 use Rattle.grounds.specs.Grounds.{column_grounds}
@@ -29,7 +25,7 @@ use Rattle.store.specs.declared.Pool.{Pool}
 use Rattle.store.specs.Stores.{Store, lengths}
 use Rattle.store.proofs.Calls.Laws.{fills_accepted}
 use Rattle.pool.specs.Calls.{column_refusal}
-use Rattle.pool.specs.Demands.{parts_for, one_half, one_and_a_half, two_and_a_half, claim_off, NoFurther, ClaimPasses, nearest_to, refusal_of, VerdictSays, VerdictDemands, CheckDemands}
+use Rattle.pool.specs.Demands.{parts_for, one_half, NoFurther, ClaimPasses, nearest_to, refusal_of, VerdictSays, VerdictDemands, CheckDemands}
 use Rattle.pool.proofs.Demands.Theorems.{slices, store_kept, store_meets}
 use Rattle.column_check.specs.Calls.{Checks}
 use Rattle.column_check.proofs.Calls.Distance.{off_within}
