@@ -1,5 +1,5 @@
 """Works the six steps, and those of the beta-binomial, out in exact whole numbers and prints the figures of small pools. It
-stops at the first that none of Cases.antt, Tranches/Cases.antt and BetaBinomial/Cases.antt in crates/steps/specs has.
+stops at the first that none of Cases.antt, Tranches/Cases.antt and BetaBinomial/Cases.antt in crates/steps/proofs has.
 
     python3 tools/steps_figures.py
 """
@@ -10,8 +10,8 @@ from kept import value
 from pools import beta_steps, chance_units, first_to_fail, layer, loss, printed_rows, printed_tails, shifts, steps, summed_counts
 from pools import tails
 
-SPECS = Path(__file__).parent.parent / "crates/steps/proofs"
-CASES = "".join((SPECS / file).read_text() for file in ("Cases.antt", "Tranches/Cases.antt", "BetaBinomial/Cases.antt"))
+PROOFS = Path(__file__).parent.parent / "crates/steps/proofs"
+CASES = "".join((PROOFS / file).read_text() for file in ("Cases.antt", "Tranches/Cases.antt", "BetaBinomial/Cases.antt"))
 # Where three touching tranches start and end.
 CUT = [0, 1000, 3000, 10000]
 # Pools, and claimed columns of each.
@@ -74,7 +74,7 @@ def main():
     for pool, claims in VERDICTS:
         row = first_to_fail(*(chance_units(side, *pool) for side in (0, 1)), claims)
         listed = " ∷ ".join([*map(str, claims), "[]"])
-        line(f"(verdict_for {' '.join(map(str, pool))} ({listed}) ≡ {'Passed' if row is None else f'Fails {row}'})")
+        line(f"(verdict_for {' '.join(map(str, pool))} ({listed}) ≡ {'all_pass' if row is None else f'fails_at {row}'})")
     made = [beta_steps(side, 3, 1000, 3000) for side in (0, 1)]
     for j in range(4):
         digits(f"λ side. kept_entry side 3 1000 3000 {j}", lambda side: made[side][0][-1][j])

@@ -11,7 +11,7 @@ use Rattle.steps.specs.Loss.{LossAnswer}
 use Rattle.steps.specs.Inputs.{largest_pool, distance_for, tenths_for}
 use Rattle.steps.specs.Promises.{HoldsSteps}
 use Rattle.grounds.specs.Grounds.{first_ground, beta_column_grounds, beta_loss_grounds}
-use Rattle.store.specs.declared.Pool.{Pool}
+use Rattle.steps.specs.declared.Pool.{Pool}
 use Rattle.pool.specs.Calls.{PrintsRow, RepliesLosses}
 pub mod Laws
 pub mod Demands

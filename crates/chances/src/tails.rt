@@ -17,6 +17,7 @@ use working::PLACES;
 pub const TAILS: usize = PLACES + 1;
 
 // The tails of one side at 0 to n + 1. Starting from zero, the chances are added from n defaults down.
+#[tactic(auto, unfolding(working::specs::Working::working_places, steps::specs::Inputs::working_assets))]
 pub fn tails(n: u32, chances: [Kept; PLACES], side: Side) -> [Kept; TAILS]
     requires { RowReady n chances (TailNumber side n) }
     ensures { TailsMade side n chances result }
@@ -25,8 +26,8 @@ pub fn tails(n: u32, chances: [Kept; PLACES], side: Side) -> [Kept; TAILS]
     let mut tails = [zero; TAILS];
     let mut total = zero;
     let places = n as usize + 1;
-    for i in 0..places {
-        let j = n as usize - i;
+    // By index, which is the place in each array: an iterator would have to be counted beside it.
+    for j in (0..places).rev() {
         total = total.sum(chances[j], side);
         tails[j] = total;
     }
@@ -34,6 +35,7 @@ pub fn tails(n: u32, chances: [Kept; PLACES], side: Side) -> [Kept; TAILS]
 }
 
 // A number of at most two in whole units, to nearest, and up where it is half way: its half units, rounded down, plus one, halved.
+#[tactic(auto, unfolding(steps::specs::Column::units_of_certainty))]
 fn in_units(x: Kept) -> u32
     requires kept { IsKept x }
     requires to_two { AtMost (value x) (integer 2) }
@@ -44,6 +46,7 @@ fn in_units(x: Kept) -> u32
 }
 
 // The printed tails at 0 to n + 1, from the tails of the low side. That at 0 is certainty.
+#[tactic(auto, unfolding(working::specs::Working::working_places, steps::specs::Inputs::working_assets, steps::specs::Column::units_of_certainty))]
 fn printed_tails(n: u32, tails: [Kept; TAILS]) -> [u32; TAILS]
     requires { Printable n tails }
     ensures { TailsPrinted n tails result }
@@ -67,14 +70,15 @@ pub fn print_tails(n: u32, row: [Kept; PLACES]) -> [u32; TAILS]
 }
 
 // Rows 0 to n, from the printed tails, into the start of the slice.
+#[tactic(auto, unfolding(steps::specs::Inputs::working_assets))]
 fn print_rows(n: u32, printed: [u32; TAILS], units: &mut [u32])
     requires falling { Falling n printed }
     requires places { n < length units.old }
     ensures { units.new ≡ entries_after n (difference_at printed) 0 units.old }
 {
     let places = n as usize + 1;
-    for k in 0..places {
-        units[k] = printed[k] - printed[k + 1];
+    for (k, unit) in units[..places].iter_mut().enumerate() {
+        *unit = printed[k] - printed[k + 1];
     }
 }
 

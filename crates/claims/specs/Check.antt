@@ -1,16 +1,20 @@
 -- The check of claimed rows over working rows.
 -- Assumes nothing.
-use Rattle.std.specs.Prelude.{ℕ, ◌≤◌, ◌<◌, ◌≡◌, List, length}
+use Rattle.std.specs.Prelude.{ℕ, ◌≤◌, ◌<◌, ◌≡◌, List, length, Option, None, Some}
 use Rattle.kept.specs.declared.Kept.{Kept}
 use Rattle.kept.specs.declared.Side.{Side}
 use Rattle.kept.specs.declared.Side.TheVariants.{Low, High}
 use Rattle.steps.specs.Chances.{kept_chances}
-use Rattle.steps.specs.Claims.{verdict_on}
-use Rattle.steps.specs.declared.Verdict.{Verdict}
+use Rattle.steps.specs.Claims.{verdict_on, VerdictAnswer, all_pass, fails_at}
 use Rattle.steps.specs.Inputs.{working_assets}
 use Rattle.chances.specs.Chances.{StepsReady, OnSides, Answerable}
 pub mod Laws
 pub mod Ready
+
+-- The verdict that a check stands for: the first row that fails, if one does.
+abbrev pub verdict_of : Option ℕ → VerdictAnswer
+verdict_of None = all_pass
+verdict_of (Some k) = fails_at k
 
 module _ (n : ℕ) (low high : List Kept) (claims : List ℕ) where
   -- What the first row to fail asks of the chances of either side, and of the claim.
@@ -22,7 +26,7 @@ module _ (n : ℕ) (low high : List Kept) (claims : List ℕ) where
     pub claimed : n < length claims
 
   -- What it leaves: the verdict.
-  pub record RowsChecked (verdict : Verdict) : Type 0 where
+  pub record RowsChecked (verdict : VerdictAnswer) : Type 0 where
     pub verdict_is : (c : Side → ℕ → Kept) → OnSides n low high c → verdict ≡ verdict_on n c claims
 
   -- What the check asks of row n of either side, and of the claim.
@@ -33,5 +37,5 @@ module _ (n : ℕ) (low high : List Kept) (claims : List ℕ) where
     pub claimed : n < length claims
 
   -- What it leaves.
-  pub record Checked (verdict : Verdict) : Type 0 where
+  pub record Checked (verdict : VerdictAnswer) : Type 0 where
     pub verdict_is : (entry : Side → ℕ → Kept) → OnSides n low high entry → verdict ≡ verdict_on n (λ side. kept_chances side n (entry side)) claims

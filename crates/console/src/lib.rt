@@ -16,9 +16,7 @@ pub fn answer_from<R: Read, W: Write>(input: &mut R, output: &mut W) -> io::Resu
     let mut start = [0u8; reply::START];
     let count = reading::read_full(input, &mut start)?;
     let reply = reply::reply_to_start(start, count);
-    let text = reply.text;
-    let length = reply.length;
-    output.write_all(&text[..length])
+    output.write_all(&reply)
 }
 
 // The input is standard input, and the output standard output.

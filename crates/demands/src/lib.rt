@@ -4,35 +4,25 @@
 
 ghost use Rattle.std.specs.Prelude.{◌≡◌, ℕ, length};
 ghost use Rattle.grounds.specs.Grounds.{first_ground, row_grounds};
+ghost use Rattle.grounds.specs.Refusals.{refusal_number};
+ghost use Rattle.column_check.specs.Answers.{verdict_in};
 ghost use Rattle.pool.specs.Demands.{BetaColumnDemands, BetaTranchesDemands};
-ghost use Rattle.pool.specs.Demands.{lent, FillDemands, RowDemands, ColumnDemands, ShiftDemands, TranchesDemands, LayerDemands, CheckDemands, ScreenColumnDemands, ScreenTranchesDemands, DeskDemands, WriteDemands, ReadDemands};
+ghost use Rattle.pool.specs.Demands.{FillDemands, RowDemands, ColumnDemands, ShiftDemands, TranchesDemands, LayerDemands, CheckDemands, ScreenColumnDemands, ScreenTranchesDemands, DeskDemands, WriteDemands, ReadDemands};
+ghost use Rattle.store.specs.Lent.{SameStore};
+ghost use Rattle.demands.specs.Lent.{lent_in, lent_in_mut};
 
-use column_check::FilledVerdict;
 use desk::{DeskRow, Request};
-use pool::{Answer, Filled, FilledLayer, FilledLosses, Pool, TRANCHES, Tranche};
+use pool::{Answer, Filled, Loss, Pool, Refusal, Store, StoreMut, TRANCHES, Tranche};
 
-pub fn fill(
-    pool: Pool,
-    head: Pool,
-    low_significands: &mut [u32],
-    high_significands: &mut [u32],
-    low_exponents: &mut [i32],
-    high_exponents: &mut [i32],
-) -> Filled
-    ensures { FillDemands pool head
-        (lent low_significands.old high_significands.old low_exponents.old high_exponents.old)
-        (lent low_significands.new high_significands.new low_exponents.new high_exponents.new)
-        result.refusal
+pub fn fill(pool: Pool, head: Pool, store: &mut StoreMut<'_>) -> Filled<Result<(), Refusal>>
+    ensures same { SameStore store.old store.new }
+    ensures demands { FillDemands pool head
+        (lent_in_mut store.old)
+        (lent_in_mut store.new)
+        (refusal_number result.answer)
         result.head }
 {
-    pool::fill(
-        pool,
-        head,
-        low_significands,
-        high_significands,
-        low_exponents,
-        high_exponents,
-    )
+    pool::fill(pool, head, store)
 }
 
 #[tactic(auto, unfolding(store::specs::Calls::row_refusal, steps::specs::Inputs::largest_pool), using(pool::proofs::Demands::Theorems::row_meets))]
@@ -43,8 +33,8 @@ pub fn row(n: u32, k: u32, significands: &[u32]) -> &[u32]
 }
 
 #[tactic(auto, unfolding(store::specs::Calls::row_refusal, steps::specs::Inputs::largest_pool))]
-pub fn row_refusal(n: u32, k: u32, significands: &[u32]) -> u32
-    ensures { result ≡ first_ground (row_grounds 100 n k (length significands.now)) }
+pub fn row_refusal(n: u32, k: u32, significands: &[u32]) -> Result<(), Refusal>
+    ensures { refusal_number result ≡ first_ground (row_grounds 100 n k (length significands.now)) }
 {
     pool::row_refusal(n, k, significands)
 }
@@ -52,57 +42,37 @@ pub fn row_refusal(n: u32, k: u32, significands: &[u32]) -> u32
 pub fn column(
     pool: Pool,
     head: Pool,
-    low_significands: &mut [u32],
-    high_significands: &mut [u32],
-    low_exponents: &mut [i32],
-    high_exponents: &mut [i32],
+    store: &mut StoreMut<'_>,
     units: &mut [u32],
-) -> Filled
-    ensures { ColumnDemands pool head
-        (lent low_significands.old high_significands.old low_exponents.old high_exponents.old)
-        (lent low_significands.new high_significands.new low_exponents.new high_exponents.new)
+) -> Filled<Result<(), Refusal>>
+    ensures same { SameStore store.old store.new }
+    ensures demands { ColumnDemands pool head
+        (lent_in_mut store.old)
+        (lent_in_mut store.new)
         units.old
         units.new
-        result.refusal
+        (refusal_number result.answer)
         result.head }
 {
-    pool::column(
-        pool,
-        head,
-        low_significands,
-        high_significands,
-        low_exponents,
-        high_exponents,
-        units,
-    )
+    pool::column(pool, head, store, units)
 }
 
 pub fn shift_list(
     pool: Pool,
     head: Pool,
-    low_significands: &mut [u32],
-    high_significands: &mut [u32],
-    low_exponents: &mut [i32],
-    high_exponents: &mut [i32],
+    store: &mut StoreMut<'_>,
     shifts: &mut [i32],
-) -> Filled
-    ensures { ShiftDemands pool head
-        (lent low_significands.old high_significands.old low_exponents.old high_exponents.old)
-        (lent low_significands.new high_significands.new low_exponents.new high_exponents.new)
+) -> Filled<Result<(), Refusal>>
+    ensures same { SameStore store.old store.new }
+    ensures demands { ShiftDemands pool head
+        (lent_in_mut store.old)
+        (lent_in_mut store.new)
         shifts.old
         shifts.new
-        result.refusal
+        (refusal_number result.answer)
         result.head }
 {
-    shift::shift_list(
-        pool,
-        head,
-        low_significands,
-        high_significands,
-        low_exponents,
-        high_exponents,
-        shifts,
-    )
+    shift::shift_list(pool, head, store, shifts)
 }
 
 pub fn tranche_losses(
@@ -110,54 +80,33 @@ pub fn tranche_losses(
     head: Pool,
     tranches: [Tranche; TRANCHES],
     count: u32,
-    low_significands: &mut [u32],
-    high_significands: &mut [u32],
-    low_exponents: &mut [i32],
-    high_exponents: &mut [i32],
-) -> FilledLosses
-    ensures { TranchesDemands pool head tranches count
-        (lent low_significands.old high_significands.old low_exponents.old high_exponents.old)
-        (lent low_significands.new high_significands.new low_exponents.new high_exponents.new)
+    store: &mut StoreMut<'_>,
+) -> Filled<Answer>
+    ensures same { SameStore store.old store.new }
+    ensures demands { TranchesDemands pool head tranches count
+        (lent_in_mut store.old)
+        (lent_in_mut store.new)
         result.answer
         result.head }
 {
-    pool::tranche_losses(
-        pool,
-        head,
-        tranches,
-        count,
-        low_significands,
-        high_significands,
-        low_exponents,
-        high_exponents,
-    )
+    pool::tranche_losses(pool, head, tranches, count, store)
 }
 
 pub fn check_column(
     pool: Pool,
     head: Pool,
     claims: &[u32],
-    low_significands: &mut [u32],
-    high_significands: &mut [u32],
-    low_exponents: &mut [i32],
-    high_exponents: &mut [i32],
-) -> FilledVerdict
-    ensures { CheckDemands pool head
+    store: &mut StoreMut<'_>,
+) -> Filled<Result<Option<u32>, Refusal>>
+    ensures same { SameStore store.old store.new }
+    ensures demands { CheckDemands pool head
         claims.now
-        (lent low_significands.old high_significands.old low_exponents.old high_exponents.old)
-        (lent low_significands.new high_significands.new low_exponents.new high_exponents.new)
-        result.verdict
+        (lent_in_mut store.old)
+        (lent_in_mut store.new)
+        (verdict_in result.answer)
         result.head }
 {
-    column_check::check_column(
-        pool,
-        head,
-        claims,
-        low_significands,
-        high_significands,
-        low_exponents,
-        high_exponents,
-    )
+    column_check::check_column(pool, head, claims, store)
 }
 
 pub fn layer_loss(
@@ -165,129 +114,61 @@ pub fn layer_loss(
     head: Pool,
     i: u32,
     j: u32,
-    low_significands: &mut [u32],
-    high_significands: &mut [u32],
-    low_exponents: &mut [i32],
-    high_exponents: &mut [i32],
-) -> FilledLayer
-    ensures { LayerDemands pool head i j
-        (lent low_significands.old high_significands.old low_exponents.old high_exponents.old)
-        (lent low_significands.new high_significands.new low_exponents.new high_exponents.new)
+    store: &mut StoreMut<'_>,
+) -> Filled<Result<Loss, Refusal>>
+    ensures same { SameStore store.old store.new }
+    ensures demands { LayerDemands pool head i j
+        (lent_in_mut store.old)
+        (lent_in_mut store.new)
         result.answer
         result.head }
 {
-    pool::layer_loss(
-        pool,
-        head,
-        i,
-        j,
-        low_significands,
-        high_significands,
-        low_exponents,
-        high_exponents,
-    )
+    pool::layer_loss(pool, head, i, j, store)
 }
 
-pub fn desk_read(
-    head: Pool,
-    request: Request,
-    ceiling: u32,
-    low_significands: &[u32],
-    high_significands: &[u32],
-    low_exponents: &[i32],
-    high_exponents: &[i32],
-) -> DeskRow
+pub fn desk_read(head: Pool, request: Request, ceiling: u32, store: &Store<'_>) -> DeskRow
     ensures { DeskDemands request.probability request.correlation request.row ceiling head
-        (lent low_significands.now high_significands.now low_exponents.now high_exponents.now)
-        result.refusal
+        (lent_in store.now)
+        (refusal_number result.outcome)
         result.low
         result.high }
 {
-    desk::read(
-        head,
-        request,
-        ceiling,
-        low_significands,
-        high_significands,
-        low_exponents,
-        high_exponents,
-    )
+    desk::read(head, request, ceiling, store)
 }
 
-pub fn write_file(
-    head: Pool,
-    low_significands: &[u32],
-    high_significands: &[u32],
-    low_exponents: &[i32],
-    high_exponents: &[i32],
-    file: &mut [u8],
-) -> u32
-    ensures { WriteDemands head
-        (lent low_significands.now high_significands.now low_exponents.now high_exponents.now)
-        file.old
-        file.new
-        result }
+pub fn write_file(head: Pool, store: &Store<'_>, file: &mut [u8]) -> Result<(), Refusal>
+    ensures { WriteDemands head (lent_in store.now) file.old file.new (refusal_number result) }
 {
-    store_file::write(
-        head,
-        low_significands,
-        high_significands,
-        low_exponents,
-        high_exponents,
-        file,
-    )
+    store_file::write(head, store, file)
 }
 
-pub fn read_file(
-    head: Pool,
-    file: &[u8],
-    low_significands: &mut [u32],
-    high_significands: &mut [u32],
-    low_exponents: &mut [i32],
-    high_exponents: &mut [i32],
-) -> Filled
-    ensures { ReadDemands head file.now
-        (lent low_significands.old high_significands.old low_exponents.old high_exponents.old)
-        (lent low_significands.new high_significands.new low_exponents.new high_exponents.new)
-        result.refusal
+pub fn read_file(head: Pool, file: &[u8], store: &mut StoreMut<'_>) -> Filled<Result<(), Refusal>>
+    ensures same { SameStore store.old store.new }
+    ensures demands { ReadDemands head file.now
+        (lent_in_mut store.old)
+        (lent_in_mut store.new)
+        (refusal_number result.answer)
         result.head }
 {
-    store_file::read(
-        head,
-        file,
-        low_significands,
-        high_significands,
-        low_exponents,
-        high_exponents,
-    )
+    store_file::read(head, file, store)
 }
 
 pub fn screen_column(
     pool: Pool,
     head: Pool,
-    low_significands: &mut [u32],
-    high_significands: &mut [u32],
-    low_exponents: &mut [i32],
-    high_exponents: &mut [i32],
+    store: &mut StoreMut<'_>,
     units: &mut [u32],
-) -> Filled
-    ensures { ScreenColumnDemands pool head
-        (lent low_significands.old high_significands.old low_exponents.old high_exponents.old)
-        (lent low_significands.new high_significands.new low_exponents.new high_exponents.new)
+) -> Filled<Result<(), Refusal>>
+    ensures same { SameStore store.old store.new }
+    ensures demands { ScreenColumnDemands pool head
+        (lent_in_mut store.old)
+        (lent_in_mut store.new)
         units.old
         units.new
-        result.refusal
+        (refusal_number result.answer)
         result.head }
 {
-    screen::column(
-        pool,
-        head,
-        low_significands,
-        high_significands,
-        low_exponents,
-        high_exponents,
-        units,
-    )
+    screen::column(pool, head, store, units)
 }
 
 pub fn screen_tranche_losses(
@@ -295,31 +176,20 @@ pub fn screen_tranche_losses(
     head: Pool,
     tranches: [Tranche; TRANCHES],
     count: u32,
-    low_significands: &mut [u32],
-    high_significands: &mut [u32],
-    low_exponents: &mut [i32],
-    high_exponents: &mut [i32],
-) -> FilledLosses
-    ensures { ScreenTranchesDemands pool head tranches count
-        (lent low_significands.old high_significands.old low_exponents.old high_exponents.old)
-        (lent low_significands.new high_significands.new low_exponents.new high_exponents.new)
+    store: &mut StoreMut<'_>,
+) -> Filled<Answer>
+    ensures same { SameStore store.old store.new }
+    ensures demands { ScreenTranchesDemands pool head tranches count
+        (lent_in_mut store.old)
+        (lent_in_mut store.new)
         result.answer
         result.head }
 {
-    screen::tranche_losses(
-        pool,
-        head,
-        tranches,
-        count,
-        low_significands,
-        high_significands,
-        low_exponents,
-        high_exponents,
-    )
+    screen::tranche_losses(pool, head, tranches, count, store)
 }
 
-pub fn beta_column(pool: Pool, units: &mut [u32]) -> u32
-    ensures { BetaColumnDemands pool units.old units.new result }
+pub fn beta_column(pool: Pool, units: &mut [u32]) -> Result<(), Refusal>
+    ensures { BetaColumnDemands pool units.old units.new (refusal_number result) }
 {
     beta_binomial::column(pool, units)
 }

@@ -14,7 +14,7 @@ use Rattle.steps.specs.Exponents.{Ranged}
 use Rattle.steps.specs.Inputs.{up_to, fine_pool, distance_for, working_assets}
 use Rattle.working.specs.Working.{working_places}
 use Rattle.working.specs.Slices.{side_store, number_at, tabulate, overwritten, entries_after}
-use Rattle.store.specs.declared.Pool.{Pool}
+use Rattle.steps.specs.declared.Pool.{Pool}
 use Rattle.store.specs.Stores.{Store, side_of, place}
 use Rattle.store.specs.Calls.{Fills}
 use Rattle.store.proofs.Calls.Laws.{fills_head}
@@ -22,6 +22,7 @@ use Rattle.pool.specs.Demands.{kept_zero, parts_for, Slices, lent, number_on, Bo
 use Rattle.desk.specs.declared.Request.{Request}
 use Rattle.desk.specs.declared.DeskRow.{DeskRow}
 use Rattle.desk.specs.Calls.{row_on, row_handed, SameNumbers, ReadsRow}
+use Rattle.grounds.specs.Refusals.{refusal_number}
 
 -- ---- the row
 
@@ -130,7 +131,7 @@ bounds_after_refusal {after} j fill column some desk =
 
 -- The contract's part of it: the numbers, the bounds and the range, from slices with the same numbers in the row.
 pub contract_three : {number ceiling : ℕ} {came head : Pool} {before after s : Store} {request : Request} {answer : DeskRow}
-    → Fills number distance_for (pool_of 3) came before after 0 head → ReadsRow head request ceiling s answer → answer.refusal ≡ 0 → request.row ≡ 3
+    → Fills number distance_for (pool_of 3) came before after 0 head → ReadsRow head request ceiling s answer → refusal_number answer.outcome ≡ 0 → request.row ≡ 3
     → ((side : Side) (j : ℕ) → j ≤ 3 → number_at (side_of side s) (6 + j) ≡ number_at (side_of side after) (6 + j)) → (j : ℕ) → j ≤ 3
     → Enclosed 100000 (get_or answer.low j nought) (get_or answer.high j nought) (probability 1000 3000 j 3)
     × ((side : Side) → (get_or (row_on answer side) j nought ≡ kept_row side 1000 3000 3 j) × Ranged (get_or (row_on answer side) j nought))

@@ -13,11 +13,12 @@ use Rattle.steps.specs.Inputs.{largest_pool}
 use Rattle.working.specs.Working.{working_places}
 use Rattle.working.specs.Slices.{SideStore, number_at, entries_after}
 use Rattle.grounds.specs.Grounds.{first_ground, desk_grounds}
-use Rattle.store.specs.declared.Pool.{Pool}
+use Rattle.steps.specs.declared.Pool.{Pool}
 use Rattle.store.specs.Stores.{Store, lengths, side_of, place}
 use Rattle.store.specs.Calls.{Fills}
 use Rattle.desk.specs.declared.Request.{Request}
 use Rattle.desk.specs.declared.DeskRow.{DeskRow}
+use Rattle.grounds.specs.Refusals.{refusal_number}
 pub mod Laws
 
 unfoldable pub desk_refusal : (head : Pool) → Request → (ceiling : ℕ) → Store → ℕ
@@ -44,8 +45,8 @@ pub record HoldsRow (g p ρ k : ℕ) (row : Side → List Kept) : Type 0 where
   pub ranged : (side : Side) (j : ℕ) → j ≤ k → Ranged (get_or (row side) j nought)
 
 pub record ReadsRow (head : Pool) (request : Request) (ceiling : ℕ) (s : Store) (answer : DeskRow) : Type 0 where
-  pub refusal_is : answer.refusal ≡ desk_refusal head request ceiling s
-  pub rows_are : (side : Side) → row_on answer side ≡ row_handed answer.refusal request.row (side_of side s)
+  pub refusal_is : refusal_number answer.outcome ≡ desk_refusal head request ceiling s
+  pub rows_are : (side : Side) → row_on answer side ≡ row_handed (refusal_number answer.outcome) request.row (side_of side s)
   -- With the head that an accepted call handed back, from entries as that call left them in the row, whatever else was written since.
-  pub of_filled : answer.refusal ≡ 0 → {number : ℕ} {g : ℕ → ℕ} {pool came : Pool} {before after : Store} → Fills number g pool came before after 0 head
+  pub of_filled : refusal_number answer.outcome ≡ 0 → {number : ℕ} {g : ℕ → ℕ} {pool came : Pool} {before after : Store} → Fills number g pool came before after 0 head
       → SameNumbers request.row s after → HoldsRow (g request.row) head.probability head.correlation request.row (row_on answer)

@@ -1,78 +1,57 @@
 // A desk's read of a store that several desks use: a row of it, by value, if the head of the store is what the desk expects. Any
-// numbers and slices of any length may be given. The call answers, or refuses by the number of the first ground that applies.
+// numbers and slices of any length may be given. The call answers, or refuses by the first ground that applies.
 #![tactic(auto)]
 
-ghost use Rattle.store.specs.Stores.{store};
+ghost use Rattle.store.specs.Lent.{contents};
 ghost use Rattle.desk.specs.Calls.{ReadsRow};
 
-use grounds::Lengths;
 use kept::Kept;
-use pool::Pool;
+use pool::{Pool, Refusal, Store};
 use steps::LARGEST_POOL;
-use working::{PLACES, read_row};
+use working::PLACES;
 
 // The default probability and the correlation that a desk expects of the head, and the row that it asks for.
-#[derive(Clone, Copy)]
+#[derive(Clone, Copy, Debug, PartialEq, Eq)]
 pub struct Request {
     pub probability: u32,
     pub correlation: u32,
     pub row: u32,
 }
 
-// The number of a refusal, or 0, and the kept numbers of the row on either side, with zeros behind them. On a refusal all are zeros.
+// Whether the read is refused, and the kept numbers of the row on either side, with zeros behind them. On a refusal all are zeros: for the
+// sake of these the rows stand beside the outcome and not in it.
 #[derive(Clone, Copy)]
 pub struct DeskRow {
-    pub refusal: u32,
+    pub outcome: Result<(), Refusal>,
     pub low: [Kept; PLACES],
     pub high: [Kept; PLACES],
 }
 
 // Row k of the store, for a desk that reads no row above its ceiling. Nothing is written.
-pub fn read(
-    head: Pool,
-    request: Request,
-    ceiling: u32,
-    low_significands: &[u32],
-    high_significands: &[u32],
-    low_exponents: &[i32],
-    high_exponents: &[i32],
-) -> DeskRow
-    ensures { ReadsRow head request ceiling
-        (store low_significands.now high_significands.now low_exponents.now high_exponents.now)
-        result }
+pub fn read(head: Pool, request: Request, ceiling: u32, store: &Store<'_>) -> DeskRow
+    ensures { ReadsRow head request ceiling (contents store.now) result }
 {
-    let refusal = refusals::desk_refusal(
+    let outcome = refusals::desk_refusal(
         LARGEST_POOL,
-        head.assets,
-        head.probability,
-        head.correlation,
+        head,
         request.probability,
         request.correlation,
         request.row,
         ceiling,
-        Lengths {
-            low_significands: low_significands.len(),
-            high_significands: high_significands.len(),
-            low_exponents: low_exponents.len(),
-            high_exponents: high_exponents.len(),
-        },
+        store.lengths(),
     );
-    if refusal != 0 {
+    if outcome.is_err() {
         let zero = Kept::zero();
         let none = [zero; PLACES];
         return DeskRow {
-            refusal,
+            outcome,
             low: none,
             high: none,
         };
     }
     let from = grounds::row_start(request.row);
     let count = request.row as usize + 1;
-    let low = read_row(count, from, low_significands, low_exponents);
-    let high = read_row(count, from, high_significands, high_exponents);
-    DeskRow {
-        refusal: 0,
-        low,
-        high,
-    }
+    let low = store.low().row(count, from);
+    let high = store.high().row(count, from);
+    DeskRow { outcome, low, high }
 }

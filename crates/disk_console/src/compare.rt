@@ -1,62 +1,28 @@
-// Compares heads and entries.
-ghost use Rattle.std.specs.Prelude.{pos, ◌≡◌};
-ghost use Rattle.disk_console.specs.Compare.{Decides, Same, SameSide};
+// Compares the entries of stores.
+ghost use Rattle.std.specs.Prelude.{◌≡◌};
+ghost use Rattle.std.specs.Bool.{Decides};
+ghost use Rattle.disk_console.specs.Compare.{Same, SameEntries};
 
-use store::Pool;
-
-pub(crate) fn same_head(a: Pool, b: Pool) -> bool
-    ensures { Decides result (a ≡ b) }
-{
-    (a.assets == b.assets) & (a.probability == b.probability) & (a.correlation == b.correlation)
-}
+use store::Store;
 
 // Whether two slices have so many places, and the same numbers in them.
-fn same_naturals(count: usize, a: &[u32], b: &[u32]) -> bool
-    ensures { Decides result (Same 0 count a.now b.now) }
+#[tactic(auto, using(crate::proofs::Same::same_decides))]
+fn same<T: PartialEq>(count: usize, a: &[T], b: &[T]) -> bool
+    ensures { ((x y : T) → Decides (T.eq x y) (x ≡ y)) → Decides result (Same count a.now b.now) }
 {
-    if a.len() < count {
+    if a.len() < count || b.len() < count {
         return false;
     }
-    if b.len() < count {
-        return false;
-    }
-    for i in 0..count {
-        if a[i] != b[i] {
-            return false;
-        }
-    }
-    true
+    a[..count] == b[..count]
 }
 
-fn same_integers(count: usize, a: &[i32], b: &[i32]) -> bool
-    ensures { Decides result (Same (pos 0) count a.now b.now) }
+// The same of the slices of two stores.
+pub(crate) fn same_entries(count: usize, a: &Store<'_>, b: &Store<'_>) -> bool
+    ensures { Decides result (SameEntries count a.now b.now) }
 {
-    if a.len() < count {
-        return false;
-    }
-    if b.len() < count {
-        return false;
-    }
-    for i in 0..count {
-        if a[i] != b[i] {
-            return false;
-        }
-    }
-    true
-}
-
-// The same of one side of two stores.
-pub(crate) fn same_side(
-    count: usize,
-    significands: &[u32],
-    exponents: &[i32],
-    other_significands: &[u32],
-    other_exponents: &[i32],
-) -> bool
-    ensures { Decides result (SameSide count
-        significands.now exponents.now other_significands.now other_exponents.now) }
-{
-    let naturals = same_naturals(count, significands, other_significands);
-    let integers = same_integers(count, exponents, other_exponents);
-    naturals & integers
+    let low_significands = same(count, a.low_significands, b.low_significands);
+    let high_significands = same(count, a.high_significands, b.high_significands);
+    let low_exponents = same(count, a.low_exponents, b.low_exponents);
+    let high_exponents = same(count, a.high_exponents, b.high_exponents);
+    low_significands & high_significands & low_exponents & high_exponents
 }

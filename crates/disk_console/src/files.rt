@@ -1,5 +1,7 @@
-// Opens and writes a file.
-use super::lines::say_failure;
+// Reads and writes a file.
+ghost use Rattle.std.specs.Prelude.{◌≤◌, length, IfOk};
+
+use crate::failure::Failure;
 use std::io::Write;
 use std::rt::Files;
 use std::{fs, io};
@@ -30,13 +32,10 @@ fn path_text(path: &[u8]) -> io::Result<&str> {
     if path.contains(&0) {
         return Err(invalid_argument());
     }
-    match str::from_utf8(path) {
-        Ok(text) => Ok(text),
-        Err(_) => Err(io::Error::from_raw_os_error(ILLEGAL_BYTES)),
-    }
+    str::from_utf8(path).map_err(|_| io::Error::from_raw_os_error(ILLEGAL_BYTES))
 }
 
-pub(crate) fn open_to_read<R: Files>(rt: &R, path: &[u8]) -> io::Result<R::File> {
+fn open_to_read<R: Files>(rt: &R, path: &[u8]) -> io::Result<R::File> {
     fs::open(rt, path_text(path)?)
 }
 
@@ -44,19 +43,23 @@ fn open_to_write<R: Files>(rt: &R, path: &[u8]) -> io::Result<R::File> {
     fs::create(rt, path_text(path)?)
 }
 
-// Makes the file, or empties it where it is there, and writes the bytes to it. The answer is whether that was done; what failed is
-// said.
-pub(crate) fn write_file(rt: &(impl Files + Print), path: &[u8], bytes: &[u8]) -> io::Result<bool> {
-    let mut file = match open_to_write(rt, path) {
-        Ok(file) => file,
-        Err(error) => {
-            say_failure(rt, b"cannot open to write", &error)?;
-            return Ok(false);
-        }
-    };
-    if let Err(error) = file.write_all(bytes) {
-        say_failure(rt, b"cannot write", &error)?;
-        return Ok(false);
-    }
-    Ok(true)
+// Puts the bytes of a file at the start of a buffer, as many as fit, and gives how many there are.
+pub(crate) fn read_file(rt: &impl Files, path: &[u8], buffer: &mut [u8]) -> Result<usize, Failure>
+    ensures { IfOk result (λ count. count ≤ length buffer.new) }
+{
+    let mut file = open_to_read(rt, path).map_err(|error| Failure::System(
+        "cannot open to read",
+        error,
+    ))?;
+    reading::read_full(&mut file, buffer).map_err(|error| Failure::System("cannot read", error))
+}
+
+// Makes the file, or empties it where it is there, and writes the bytes to it.
+pub(crate) fn write_file(rt: &impl Files, path: &[u8], bytes: &[u8]) -> Result<(), Failure> {
+    let mut file = open_to_write(rt, path).map_err(|error| Failure::System(
+        "cannot open to write",
+        error,
+    ))?;
+    file.write_all(bytes)
+        .map_err(|error| Failure::System("cannot write", error))
 }

@@ -1,6 +1,6 @@
--- Step 6 over working rows, and the answer of a loss call.
+-- Step 6 over working rows, and the losses of tranches.
 -- Assumes nothing.
-use Rattle.std.specs.Prelude.{ℕ, suc, ◌-◌, ◌*◌, ◌≤◌, ◌<◌, ◌≡◌, List, map, take, replicate}
+use Rattle.std.specs.Prelude.{ℕ, suc, ◌-◌, ◌*◌, ◌≤◌, ◌<◌, ◌≡◌, List, map, length, take}
 use Rattle.model.specs.Fraction.{whole}
 use Rattle.model.specs.Chances.{loss_units}
 use Rattle.kept.specs.declared.Kept.{Kept}
@@ -16,8 +16,6 @@ use Rattle.steps.specs.Tranches.{tranche_places, tranche_at, TranchesInRange, tr
 use Rattle.working.specs.Working.{working_places, Entries}
 use Rattle.expected_losses.specs.declared.Loss.{Loss}
 use Rattle.expected_losses.specs.declared.Loss.TheVariants.{Untouched, Faint, Shown}
-use Rattle.expected_losses.specs.declared.TrancheLoss.{TrancheLoss}
-use Rattle.expected_losses.specs.declared.Answer.{Answer}
 use Rattle.chances.specs.Chances.{RowReady, StepsReady, OnSides, Answerable}
 pub mod Laws
 pub mod Ready
@@ -42,14 +40,9 @@ loss_of Untouched = untouched
 loss_of (Faint x) = faint x
 loss_of (Shown b) = shown b.low b.high
 
--- Those of the losses of an answer.
-unfoldable pub losses_in : List TrancheLoss → List LossAnswer
-losses_in losses = map (λ l. loss_of l.loss) losses
-
--- All losses of a refused call are untouched.
-pub record AnswersRefusal (number : ℕ) (answer : Answer) : Type 0 where
-  pub refusal_is : answer.refusal ≡ number
-  pub losses_are : losses_in answer.losses ≡ replicate tranche_places untouched
+-- Those of the losses of tranches.
+unfoldable pub losses_in : List Loss → List LossAnswer
+losses_in losses = map loss_of losses
 
 -- ---- from the chances of either side
 
@@ -68,10 +61,10 @@ module _ (n : ℕ) (low high : List Kept) where
   pub record TrancheAnswered (t : Tranche) (loss : LossAnswer) : Type 0 where
     pub answer_is : (c : Side → ℕ → Kept) → OnSides n low high c → loss ≡ tranche_loss n c t
 
-  -- What the losses of the first so many tranches ask, and what they are.
-  pub record EachReady (ts : List Tranche) (count : ℕ) : Type 0 where
-    pub places : count ≤ tranche_places
-    pub ready : (i : ℕ) → i < count → TrancheReady (tranche_at ts i)
+  -- What the losses of tranches ask, and what they are.
+  pub record EachReady (ts : List Tranche) : Type 0 where
+    pub places : length ts ≤ tranche_places
+    pub ready : (i : ℕ) → i < length ts → TrancheReady (tranche_at ts i)
 
   pub record EachAnswered (ts : List Tranche) (losses : List LossAnswer) : Type 0 where
     pub answers_are : (c : Side → ℕ → Kept) → OnSides n low high c → losses ≡ tranche_losses n c ts
@@ -89,7 +82,6 @@ module _ (n : ℕ) (low high : List Kept) where
     pub answerable : (R A B : ℕ) → B ≤ whole → (wide : 0 < (B - A) * n)
         → Answerable (kept_loss Low n (kept_chances Low n low_ready.entry) R A B wide) (kept_loss High n (kept_chances High n high_ready.entry) R A B wide)
 
-  -- What they leave, from the tranches within the count: the answer of a call that is not refused.
-  pub record AnswersTranches (ts : List Tranche) (answer : Answer) : Type 0 where
-    pub refusal_is : answer.refusal ≡ 0
-    pub losses_are : (entry : Side → ℕ → Kept) → OnSides n low high entry → losses_in answer.losses ≡ tranche_losses n (λ side. kept_chances side n (entry side)) ts
+  -- What they are, from the tranches within the count.
+  pub record TranchesAnswered (ts : List Tranche) (losses : List LossAnswer) : Type 0 where
+    pub losses_are : (entry : Side → ℕ → Kept) → OnSides n low high entry → losses ≡ tranche_losses n (λ side. kept_chances side n (entry side)) ts

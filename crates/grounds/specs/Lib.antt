@@ -1,2 +1,3 @@
+pub mod Refusals
 pub mod Grounds
 pub mod Cases

@@ -14,14 +14,14 @@ mod whole;
 use rounding::{add, long_ratio, ratio, round_once};
 
 // Which bound of an exact value a number is.
-#[derive(Clone, Copy)]
+#[derive(Clone, Copy, Debug, PartialEq, Eq)]
 pub enum Side {
     Low,
     High,
 }
 
 // A kept number: zero, written 0 × 2^0, or significand × 2^exponent with a significand from 2^31 to 2^32 − 1.
-#[derive(Clone, Copy)]
+#[derive(Clone, Copy, Debug, PartialEq, Eq)]
 pub struct Kept {
     pub significand: u32,
     pub exponent: i32,

@@ -1,4 +1,4 @@
--- A layer over working rows, and the answer of a layer call.
+-- A layer over working rows, and its loss.
 -- Assumes nothing.
 use Rattle.std.specs.Prelude.{ℕ, suc, ◌+◌, ◌≤◌, ◌≡◌, List}
 use Rattle.model.specs.Chances.{layer_width, layer_wide}
@@ -8,13 +8,11 @@ use Rattle.kept.specs.declared.Side.TheVariants.{Low, High}
 use Rattle.kept.specs.Rounding.{rounded_quotient}
 use Rattle.steps.specs.Chances.{kept_total, kept_chances, kept_layer}
 use Rattle.steps.specs.Exponents.{Ranged}
-use Rattle.steps.specs.Loss.{untouched}
+use Rattle.steps.specs.Loss.{LossAnswer}
 use Rattle.steps.specs.Layers.{loss_of_layer}
 use Rattle.steps.specs.Inputs.{working_assets, LayerInRange}
 use Rattle.working.specs.Working.{working_places, Entries}
 use Rattle.chances.specs.Chances.{StepsReady, OnSides, Answerable}
-use Rattle.expected_losses.specs.Loss.{loss_of}
-use Rattle.layer_losses.specs.declared.LayerAnswer.{LayerAnswer}
 pub mod Laws
 pub mod Ready
 
@@ -40,11 +38,6 @@ pub record BoundReady (side : Side) (n : ℕ) (row : List Kept) (i j : ℕ) : Ty
 pub record BoundMade (side : Side) (n : ℕ) (row : List Kept) (i j : ℕ) (r : Kept) : Type 0 where
   pub bound : (entry : ℕ → Kept) → Entries working_places (suc n) row entry → r ≡ kept_layer side n (kept_chances side n entry) i j
 
--- A refused call answers untouched.
-pub record AnswersRefusal (number : ℕ) (answer : LayerAnswer) : Type 0 where
-  pub refusal_is : answer.refusal ≡ number
-  pub loss_is : loss_of answer.loss ≡ untouched
-
 module _ (n : ℕ) (low high : List Kept) (i j : ℕ) where
   -- What the loss of a layer asks of row n of either side.
   pub record LayerReady : Type 0 where
@@ -52,7 +45,6 @@ module _ (n : ℕ) (low high : List Kept) (i j : ℕ) where
     pub high_ready : BoundReady High n high i j
     pub answerable : Answerable (kept_layer Low n (kept_chances Low n low_ready.steps.entry) i j) (kept_layer High n (kept_chances High n high_ready.steps.entry) i j)
 
-  -- What it leaves: the answer of a call that is not refused.
-  pub record AnswersLayer (answer : LayerAnswer) : Type 0 where
-    pub refusal_is : answer.refusal ≡ 0
-    pub loss_is : (entry : Side → ℕ → Kept) → OnSides n low high entry → loss_of answer.loss ≡ loss_of_layer n (λ side. kept_chances side n (entry side)) i j
+  -- What it is.
+  pub record LayerAnswered (loss : LossAnswer) : Type 0 where
+    pub loss_is : (entry : Side → ℕ → Kept) → OnSides n low high entry → loss ≡ loss_of_layer n (λ side. kept_chances side n (entry side)) i j

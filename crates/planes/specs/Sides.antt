@@ -40,6 +40,6 @@ pub record FitsTypes (x : Kept) : Type 0 where
 pub record AllFit (m : ℕ) (f : ℕ → Kept) : Type 0 where
   pub at : (i : ℕ) → i < m → FitsTypes (f i)
 
--- Room in a file for m numbers of a side from a place on.
-pub record HasSide (m at : ℕ) (file : List ℕ) : Type 0 where
-  pub room : at + 8 * m ≤ length file
+-- m numbers of a side stand at the start of the bytes.
+pub record HasSide (m : ℕ) (bytes : List ℕ) : Type 0 where
+  pub room : 8 * m ≤ length bytes

@@ -6,6 +6,6 @@ mod reading;
 mod words;
 mod writing;
 
-pub use reading::{file_side_unkept, read_side, word_at};
+pub use reading::{FileSide, word_at};
 pub use words::Part;
 pub use writing::{put_side, put_word, side_unkept};

@@ -1,76 +1,66 @@
 // Reads numbers from a file.
-ghost use Rattle.std.specs.Prelude.{◌+◌, ◌*◌, ◌<◌, ◌≡◌, length, get_or, drop};
-ghost use Rattle.working.specs.Slices.{side_store, HasPlaces};
+ghost use Rattle.std.specs.Prelude.{◌+◌, ◌*◌, ◌<◌, ◌≡◌, length};
+ghost use Rattle.working.specs.Slices.{HasPlaces};
+ghost use Rattle.working.specs.Lent.{numbers_mut, SameSlices};
 ghost use Rattle.grounds.specs.Grounds.{some_unkept};
 ghost use Rattle.planes.specs.Planes.{word_at};
 ghost use Rattle.planes.specs.Sides.{number_in, side_after, HasSide};
 
-use super::words::{is_kept, signed_of};
+use super::words::is_kept;
 use kept::Kept;
-use working::put_number;
+use working::NumbersMut;
 
-fn byte_at(place: usize, file: &[u8]) -> u32
-    requires { place < length file.now }
-    ensures byte { result ≡ get_or file.now place 0 }
-    ensures fits { result < 256 }
+// Number i of an array of so many that starts with the bytes.
+#[tactic(auto, unfolding(crate::specs::Planes::word_at))]
+pub fn word_at(count: usize, bytes: &[u8], i: usize) -> u32
+    requires { 3 * count + i < length bytes.now }
+    ensures { result ≡ word_at count bytes.now i }
 {
-    file[place] as u32
+    let lowest = bytes[i];
+    let second = bytes[count + i];
+    let third = bytes[2 * count + i];
+    let highest = bytes[3 * count + i];
+    u32::from_le_bytes([lowest, second, third, highest])
 }
 
-// Number i of an array of so many that starts at a place.
-pub fn word_at(count: usize, at: usize, i: usize, file: &[u8]) -> u32
-    requires { at + (3 * count + i) < length file.now }
-    ensures { result ≡ word_at count (drop at file.now) i }
-{
-    let first = byte_at(at + i, file);
-    let second = byte_at(at + count + i, file);
-    let third = byte_at(at + 2 * count + i, file);
-    let fourth = byte_at(at + 3 * count + i, file);
-    first + 0x100 * second + 0x1_0000 * third + 0x100_0000 * fourth
+// One side of a store in a file: the bytes start with so many numbers.
+#[derive(Clone, Copy)]
+pub struct FileSide<'a> {
+    pub count: usize,
+    pub bytes: &'a [u8],
+    ghost holds: { HasSide count bytes.now },
 }
 
-// Kept number i of a side of so many that starts at a place.
-fn number_in(count: usize, at: usize, i: usize, file: &[u8]) -> Kept
-    requires side { HasSide count at file.now }
-    requires within { i < count }
-    ensures { result ≡ number_in count (drop at file.now) i }
-{
-    let exponents = at + 4 * count;
-    let exponent = signed_of(word_at(count, exponents, i, file));
-    Kept {
-        significand: word_at(count, at, i, file),
-        exponent,
-    }
-}
-
-// Whether some number of that side is no kept number.
-pub fn file_side_unkept(count: usize, at: usize, file: &[u8]) -> bool
-    requires { HasSide count at file.now }
-    ensures { result ≡ some_unkept count (number_in count (drop at file.now)) }
-{
-    for i in 0..count {
-        if !is_kept(number_in(count, at, i, file)) {
-            return true;
+impl FileSide<'_> {
+    // Kept number i.
+    #[tactic(auto, unfolding(crate::specs::Sides::number_in, crate::specs::Planes::signed), using(kept::specs::Rounding::Exponents::result_back))]
+    fn at(&self, i: usize) -> Kept
+        requires { i < self.now.count }
+        ensures { result ≡ number_in self.now.count self.now.bytes.now i }
+    {
+        let exponents = &self.bytes[4 * self.count..];
+        Kept {
+            significand: word_at(self.count, self.bytes, i),
+            exponent: word_at(self.count, exponents, i).cast_signed(),
         }
     }
-    false
-}
 
-// Writes the numbers of that side to two slices, from their first place on.
-pub fn read_side(
-    count: usize,
-    at: usize,
-    file: &[u8],
-    significands: &mut [u32],
-    exponents: &mut [i32],
-)
-    requires side { HasSide count at file.now }
-    requires places { HasPlaces count (side_store significands.old exponents.old) }
-    ensures { side_store significands.new exponents.new
-        ≡ side_after count (number_in count (drop at file.now)) (side_store significands.old exponents.old) }
-{
-    for i in 0..count {
-        let x = number_in(count, at, i, file);
-        put_number(x, i, significands, exponents);
+    // Whether some number is no kept number.
+    pub fn some_unkept(&self) -> bool
+        ensures { result ≡ some_unkept self.now.count (number_in self.now.count self.now.bytes.now) }
+    {
+        (0..self.count).any(|i| !is_kept(self.at(i)))
+    }
+
+    // Writes the numbers to two slices, from their first place on.
+    pub fn read(&self, side: &mut NumbersMut<'_>)
+        requires { HasPlaces self.now.count (numbers_mut side.old) }
+        ensures same { SameSlices side.old side.new }
+        ensures read { numbers_mut side.new ≡ side_after self.now.count (number_in self.now.count self.now.bytes.now) (numbers_mut side.old) }
+    {
+        // By index: the numbers of a side stand in two slices, and in a file apart from one another.
+        for i in 0..self.count {
+            side.put(i, self.at(i));
+        }
     }
 }

@@ -1,1 +1,2 @@
+pub mod Answers
 pub mod Demands

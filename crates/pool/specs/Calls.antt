@@ -19,7 +19,7 @@ use Rattle.steps.specs.Inputs.{largest_pool, distance_for, tenths_for}
 use Rattle.steps.specs.Promises.{HoldsColumn, HoldsLosses, HoldsLayer}
 use Rattle.working.specs.Slices.{entries_after}
 use Rattle.grounds.specs.Grounds.{first_ground, column_grounds, loss_grounds, layer_grounds}
-use Rattle.store.specs.declared.Pool.{Pool}
+use Rattle.steps.specs.declared.Pool.{Pool}
 use Rattle.store.specs.Stores.{Store, lengths}
 use Rattle.store.specs.Calls.{Fills}
 pub mod Laws

@@ -13,7 +13,7 @@
 -- and gives the head, the entries and the bounds back of a store that was filled.
 -- A row that a desk reads has the bounds of the store that was filled, with the distance of its row; what else a store holds plays no part.
 -- Assumes nothing.
-use Rattle.std.specs.Prelude.{ℕ, suc, ◌+◌, ◌-◌, ◌*◌, ◌/◌, ◌%◌, ◌^◌, ◌≤◌, ◌<◌, ◌≡◌, ◌⊎◌, false, cond, List, [], ◌∷◌, ltb, ℤ, pos, negsuc, nat_abs, ◌+ℤ◌, ◌-ℤ◌, ◌≤ℤ◌, length, get_or, drop, Float}
+use Rattle.std.specs.Prelude.{Result, ℕ, suc, ◌+◌, ◌-◌, ◌*◌, ◌/◌, ◌%◌, ◌^◌, ◌≤◌, ◌<◌, ◌≡◌, ◌⊎◌, false, cond, List, [], ◌∷◌, ltb, ℤ, pos, negsuc, nat_abs, ◌+ℤ◌, ◌-ℤ◌, ◌≤ℤ◌, length, get_or, drop, Float}
 use Rattle.std.proofs.Common.{lit<}
 use Rattle.std.specs.Float.{binary64}
 use Rattle.std.specs.Float.Ieee.{to_bits}
@@ -30,22 +30,23 @@ use Rattle.kept.specs.Rounding.{scaled, value}
 use Rattle.steps.specs.CorrelatedBinomial.Rows.{kept_row}
 use Rattle.steps.specs.Chances.{kept_tail, kept_loss, kept_layer}
 use Rattle.steps.specs.Column.{printed_tail}
-use Rattle.steps.specs.declared.Verdict.{Verdict}
-use Rattle.steps.specs.declared.Verdict.TheVariants.{Refused, Passed, Fails}
 use Rattle.steps.specs.CorrelatedBinomial.{kept_defaults}
 use Rattle.steps.specs.CorrelatedBinomial.Exponents.{PoolNumber}
 use Rattle.steps.specs.BetaBinomial.{kept_entry, kept_beta_defaults, BetaNumber}
 use Rattle.steps.specs.Inputs.{distance_for}
 use Rattle.steps.specs.declared.Tranche.{Tranche}
 use Rattle.grounds.specs.Grounds.{Ground, first_ground, fill_grounds, row_grounds, column_grounds, shift_grounds, loss_grounds, layer_grounds, screen_column_grounds, screen_loss_grounds, Screens, beta_column_grounds, beta_loss_grounds, desk_grounds, file_grounds}
-use Rattle.store.specs.declared.Pool.{Pool}
+use Rattle.steps.specs.declared.Pool.{Pool}
 use Rattle.store.specs.Stores.{Store, store}
 use Rattle.expected_losses.specs.declared.Loss.{Loss}
 use Rattle.expected_losses.specs.declared.Loss.TheVariants.{Untouched, Faint, Shown}
-use Rattle.expected_losses.specs.declared.Answer.{Answer}
+use Rattle.pool.specs.declared.losses.Answer.{Answer}
 use Rattle.expected_losses.specs.Loss.{losses_in}
-use Rattle.layer_losses.specs.declared.LayerAnswer.{LayerAnswer}
+use Rattle.grounds.specs.declared.refusal.Refusal.{Refusal}
+use Rattle.grounds.specs.Refusals.{refusal_number}
+use Rattle.pool.specs.Answers.{loss_in}
 use Rattle.pool.specs.Calls.{column_refusal, Prints, loss_refusal, Replies}
+use Rattle.steps.specs.Claims.{VerdictAnswer, refused_by, all_pass, fails_at}
 
 -- ---- the demands
 
@@ -144,10 +145,10 @@ nearest_to Low x = (2 * x.num + x.den - 1) / (2 * x.den)
 nearest_to High x = (2 * x.num + x.den) / (2 * x.den)
 
 -- The number of a refusal that a verdict tells, or 0.
-abbrev pub refusal_of : Verdict → ℕ
-refusal_of (Refused number) = number
-refusal_of Passed = 0
-refusal_of (Fails k) = 0
+abbrev pub refusal_of : VerdictAnswer → ℕ
+refusal_of (refused_by number) = number
+refusal_of all_pass = 0
+refusal_of (fails_at k) = 0
 
 -- 2.5
 unfoldable pub two_and_a_half : Fraction
@@ -174,18 +175,18 @@ module _ (n : ℕ) (c : Side → ℕ → Kept) (exact : ℕ → Fraction) (claim
     pub far : ClaimWithin one_half k → ⊥
 
   -- What a verdict says of rows 0 to n. No refusal is one.
-  abbrev pub VerdictSays : Verdict → Type 0
-  VerdictSays (Refused number) = ⊥
-  VerdictSays Passed = (k : ℕ) → k ≤ n → ClaimPassesAt k
-  VerdictSays (Fails k) = FailsDemands k
+  abbrev pub VerdictSays : VerdictAnswer → Type 0
+  VerdictSays (refused_by number) = ⊥
+  VerdictSays all_pass = (k : ℕ) → k ≤ n → ClaimPassesAt k
+  VerdictSays (fails_at k) = FailsDemands k
 
   -- A row that is at most half a unit off passes, and so does a column of such rows: that of exact chances each rounded to nearest, where what is half way goes up or down as
   -- each row likes. A row that passes is no further off than half a unit and 100,000 × (high − low), and no further than `claimOff n`.
-  pub record VerdictDemands (verdict : Verdict) : Type 0 where
+  pub record VerdictDemands (verdict : VerdictAnswer) : Type 0 where
     pub says : VerdictSays verdict
     pub near_row : (k : ℕ) → k ≤ n → ClaimWithin one_half k → ClaimPassesAt k
-    pub near : ((k : ℕ) → k ≤ n → ClaimWithin one_half k) → verdict ≡ Passed
-    pub rounded : (side : ℕ → Side) → ((k : ℕ) → k ≤ n → get_or claims k 0 ≡ nearest_to (side k) (times (integer 100000) (exact k))) → verdict ≡ Passed
+    pub near : ((k : ℕ) → k ≤ n → ClaimWithin one_half k) → verdict ≡ all_pass
+    pub rounded : (side : ℕ → Side) → ((k : ℕ) → k ≤ n → get_or claims k 0 ≡ nearest_to (side k) (times (integer 100000) (exact k))) → verdict ≡ all_pass
     pub passed : (k : ℕ) → k ≤ n → ClaimPassesAt k → ClaimWithin (plus one_half (times (integer 100000) (minus (value (c High k)) (value (c Low k))))) k
     pub passed_units : (k : ℕ) → k ≤ n → ClaimPassesAt k → ClaimWithin (claim_off n) k
 
@@ -286,7 +287,7 @@ abbrev pub given_at : List Tranche → ℕ → Tranche
 given_at tranches i = get_or tranches i (record { recovery = 0; lower = 0; upper = 0 })
 
 abbrev pub loss_at : Answer → ℕ → Loss
-loss_at answer i = (get_or answer.losses i (record { loss = Untouched })).loss
+loss_at answer i = get_or answer.losses i Untouched
 
 -- The tranches within the count touch from 0 to 10,000 with one recovery: there is a first one, and its A is 0; each B is the next A; the last B is 10,000; every R is
 -- that of the first.
@@ -338,10 +339,10 @@ pub record SharedDemands (p : ℕ) (r : Chances) (c : Side → ℕ → Kept) (tr
 -- count is untouched, and so are all eight on a refusal.
 pub record LossesDemands (parts p : ℕ) (r : Chances) (c : Side → ℕ → Kept) (tranches : List Tranche) (count : ℕ) (answer : Answer) : Type 0 where
   pub eight : length answer.losses ≡ 8
-  pub within : answer.refusal ≡ 0 → (i : ℕ) → i < 8 → i < count → TrancheDemands parts r c (given_at tranches i) (loss_at answer i)
-  pub past : answer.refusal ≡ 0 → (i : ℕ) → i < 8 → count ≤ i → loss_at answer i ≡ Untouched
-  pub shared : answer.refusal ≡ 0 → Touch tranches count → SharedDemands p r c tranches count answer
-  pub refused : (answer.refusal ≡ 0 → ⊥) → (i : ℕ) → i < 8 → loss_at answer i ≡ Untouched
+  pub within : refusal_number answer.outcome ≡ 0 → (i : ℕ) → i < 8 → i < count → TrancheDemands parts r c (given_at tranches i) (loss_at answer i)
+  pub past : refusal_number answer.outcome ≡ 0 → (i : ℕ) → i < 8 → count ≤ i → loss_at answer i ≡ Untouched
+  pub shared : refusal_number answer.outcome ≡ 0 → Touch tranches count → SharedDemands p r c tranches count answer
+  pub refused : (refusal_number answer.outcome ≡ 0 → ⊥) → (i : ℕ) → i < 8 → loss_at answer i ≡ Untouched
 
 -- What steps 4 to 6 make for n assets, of a row of chances in general: bounds of the chances and of the tails; and no number that is made, those of the entries
 -- before and of the losses of tranches and layers after included, has an exponent below −80,000 or above 100.
@@ -443,24 +444,24 @@ module _ (pool : Pool) where
         (tail (defaults n p ρ)) (tail (defaults n p 0)) shifts'
 
   -- The check of a claimed column, which is lent to be read, so that no call can write to it. Its grounds are those of a column.
-  pub record CheckDemands (head : Pool) (claims : List ℕ) (before after : Slices) (verdict : Verdict) (head' : Pool) : Type 0 where
+  pub record CheckDemands (head : Pool) (claims : List ℕ) (before after : Slices) (verdict : VerdictAnswer) (head' : Pool) : Type 0 where
     pub one : Demand1 (column_grounds 100 n p ρ (lengths_of before) (length claims)) (refusal_of verdict) before after
     pub store : StoreDemands parts_for head before after (refusal_of verdict) head'
     pub answer : refusal_of verdict ≡ 0 → VerdictDemands n (λ side. kept_defaults side n p ρ) (chance (defaults n p ρ)) claims verdict
 
   -- The layer call. The layer of all defaults loses p.
-  pub record LayerDemands (head : Pool) (i j : ℕ) (before after : Slices) (answer : LayerAnswer) (head' : Pool) : Type 0 where
-    pub one : Demand1 (layer_grounds 100 n p ρ i j (lengths_of before)) answer.refusal before after
-    pub store : StoreDemands parts_for head before after answer.refusal head'
-    pub layer : answer.refusal ≡ 0 → LayerLossDemands (parts_for n) (defaults n p ρ) (λ side. kept_defaults side n p ρ) i j answer.loss
-    pub of_all : answer.refusal ≡ 0 → Same (layer_loss (defaults n p ρ) 1 n) (record { num = p; den = 10000; positive = lit< tt })
-    pub refused : (answer.refusal ≡ 0 → ⊥) → answer.loss ≡ Untouched
+  pub record LayerDemands (head : Pool) (i j : ℕ) (before after : Slices) (answer : Result Loss Refusal) (head' : Pool) : Type 0 where
+    pub one : Demand1 (layer_grounds 100 n p ρ i j (lengths_of before)) (refusal_number answer) before after
+    pub store : StoreDemands parts_for head before after (refusal_number answer) head'
+    pub layer : refusal_number answer ≡ 0 → LayerLossDemands (parts_for n) (defaults n p ρ) (λ side. kept_defaults side n p ρ) i j (loss_in answer)
+    pub of_all : refusal_number answer ≡ 0 → Same (layer_loss (defaults n p ρ) 1 n) (record { num = p; den = 10000; positive = lit< tt })
+    pub refused : (refusal_number answer ≡ 0 → ⊥) → (loss_in answer) ≡ Untouched
 
   module _ (head : Pool) (tranches : List Tranche) (count : ℕ) where
     -- Of a loss call, by how far its bounds are apart and by its grounds.
     pub record TranchesDemandsBy (parts : ℕ → ℕ) (grounds : List Ground) (before after : Slices) (answer : Answer) (head' : Pool) : Type 0 where
-      pub one : Demand1 grounds answer.refusal before after
-      pub store : StoreDemands parts head before after answer.refusal head'
+      pub one : Demand1 grounds (refusal_number answer.outcome) before after
+      pub store : StoreDemands parts head before after (refusal_number answer.outcome) head'
       pub losses : LossesDemands (parts n) p (defaults n p ρ) (λ side. kept_defaults side n p ρ) tranches count answer
 
     abbrev pub TranchesDemands : (before after : Slices) (answer : Answer) (head' : Pool) → Type 0
@@ -469,17 +470,17 @@ module _ (pool : Pool) where
     -- The quote screen's losses, as its column.
     pub record ScreenTranchesDemands (before after : Slices) (answer : Answer) (head' : Pool) : Type 0 where
       pub own : TranchesDemandsBy (λ _. 1000000) (screen_loss_grounds 100 20 n p ρ tranches count (lengths_of before)) before after answer head'
-      pub screens : Screens 100 20 n (first_ground (loss_grounds 100 n p ρ tranches count (lengths_of before))) answer.refusal
-      pub library : (answer.refusal ≡ 11 → ⊥)
-          → Replies loss_refusal distance_for pool head tranches count (store_of before) (store_of after) answer.refusal head' (losses_in answer.losses)
-      pub same : (answer.refusal ≡ 11 → ⊥) → (after₂ : Slices) (answer₂ : Answer) (head₂ : Pool)
-          → Replies loss_refusal distance_for pool head tranches count (store_of before) (store_of after₂) answer₂.refusal head₂ (losses_in answer₂.losses)
+      pub screens : Screens 100 20 n (first_ground (loss_grounds 100 n p ρ tranches count (lengths_of before))) (refusal_number answer.outcome)
+      pub library : (refusal_number answer.outcome ≡ 11 → ⊥)
+          → Replies loss_refusal distance_for pool head tranches count (store_of before) (store_of after) (refusal_number answer.outcome) head' (losses_in answer.losses)
+      pub same : (refusal_number answer.outcome ≡ 11 → ⊥) → (after₂ : Slices) (answer₂ : Answer) (head₂ : Pool)
+          → Replies loss_refusal distance_for pool head tranches count (store_of before) (store_of after₂) (refusal_number answer₂.outcome) head₂ (losses_in answer₂.losses)
           → (answer ≡ answer₂) × (after ≡ after₂) × (head' ≡ head₂)
 
   -- The loss call of the beta-binomial model, which is lent no slice.
   pub record BetaTranchesDemands (tranches : List Tranche) (count : ℕ) (answer : Answer) : Type 0 where
-    pub number : answer.refusal ≡ first_ground (beta_loss_grounds 100 n p ρ tranches count)
-    pub row : answer.refusal ≡ 0 → BetaRowDemands (parts_for n)
+    pub number : refusal_number answer.outcome ≡ first_ground (beta_loss_grounds 100 n p ρ tranches count)
+    pub row : refusal_number answer.outcome ≡ 0 → BetaRowDemands (parts_for n)
     pub losses : LossesDemands (parts_for n) p (beta_defaults n p ρ) (λ side. kept_beta_defaults side n p ρ) tranches count answer
 
 -- The slice is lent to be read, so that no call can write to it. Row k of a filled store has the significands of its bounds.

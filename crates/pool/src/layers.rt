@@ -1,10 +1,11 @@
 // Works out the expected loss of a layer by number of defaults.
-ghost use Rattle.store.specs.Stores.{store};
+ghost use Rattle.grounds.specs.Refusals.{refusal_number};
+ghost use Rattle.store.specs.Lent.{contents_mut, SameStore};
 ghost use Rattle.expected_losses.specs.Loss.{loss_of};
+ghost use Rattle.pool.specs.Answers.{loss_in};
 ghost use Rattle.pool.specs.Calls.{LayerReplies};
 
-use super::{FilledLayer, Pool};
-use grounds::Lengths;
+use super::{Filled, Loss, Pool, Refusal, StoreMut};
 use steps::LARGEST_POOL;
 use store::fill_both;
 
@@ -14,45 +15,21 @@ pub fn layer_loss(
     head: Pool,
     i: u32,
     j: u32,
-    low_significands: &mut [u32],
-    high_significands: &mut [u32],
-    low_exponents: &mut [i32],
-    high_exponents: &mut [i32],
-) -> FilledLayer
-    ensures { LayerReplies pool head i j
-        (store low_significands.old high_significands.old low_exponents.old high_exponents.old)
-        (store low_significands.new high_significands.new low_exponents.new high_exponents.new)
-        result.answer.refusal
+    store: &mut StoreMut<'_>,
+) -> Filled<Result<Loss, Refusal>>
+    ensures same { SameStore store.old store.new }
+    ensures replies { LayerReplies pool head i j
+        (contents_mut store.old)
+        (contents_mut store.new)
+        (refusal_number result.answer)
         result.head
-        (loss_of result.answer.loss) }
+        (loss_of (loss_in result.answer)) }
 {
-    let refusal = refusals::layer_refusal(
-        LARGEST_POOL,
-        pool.assets,
-        pool.probability,
-        pool.correlation,
-        i,
-        j,
-        Lengths {
-            low_significands: low_significands.len(),
-            high_significands: high_significands.len(),
-            low_exponents: low_exponents.len(),
-            high_exponents: high_exponents.len(),
-        },
-    );
-    if refusal != 0 {
-        let answer = layer_losses::refused(refusal);
-        return FilledLayer { answer, head };
+    if let Err(refusal) = refusals::layer_refusal(LARGEST_POOL, pool, i, j, store.lengths()) {
+        let answer = Err(refusal);
+        return Filled { answer, head };
     }
-    let rows = fill_both(
-        pool,
-        low_significands,
-        high_significands,
-        low_exponents,
-        high_exponents,
-    );
-    let low = rows.low;
-    let high = rows.high;
-    let answer = layer_losses::layer_loss(pool.assets, low, high, i, j);
-    FilledLayer { answer, head: pool }
+    let rows = fill_both(pool, store);
+    let answer = Ok(layer_losses::layer_loss(pool.assets, rows, i, j));
+    Filled { answer, head: pool }
 }

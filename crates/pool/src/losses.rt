@@ -1,13 +1,21 @@
 // Works out the expected losses of tranches.
+ghost use Rattle.grounds.specs.Refusals.{refusal_number};
 ghost use Rattle.steps.specs.Inputs.{distance_for};
-ghost use Rattle.store.specs.Stores.{store};
+ghost use Rattle.store.specs.Lent.{contents_mut, SameStore};
 ghost use Rattle.expected_losses.specs.Loss.{losses_in};
 ghost use Rattle.pool.specs.Calls.{loss_refusal, Replies};
 
-use super::{FilledLosses, Pool, TRANCHES, Tranche};
-use grounds::Lengths;
+use super::{Filled, Loss, Pool, Refusal, StoreMut, TRANCHES, Tranche};
 use steps::LARGEST_POOL;
 use store::fill_both;
+
+// What a loss call answers: whether it is refused, and the losses of the tranches within its count, each at the place of its tranche. A
+// place past the count is untouched, and so are all on a refusal: for the sake of these the losses stand beside the outcome and not in it.
+#[derive(Clone, Copy)]
+pub struct Answer {
+    pub outcome: Result<(), Refusal>,
+    pub losses: [Loss; TRANCHES],
+}
 
 // The expected losses of the first `count` tranches, each with its own recovery. The records past them are never looked at. The store
 // is filled on the way.
@@ -16,45 +24,24 @@ pub fn tranche_losses(
     head: Pool,
     tranches: [Tranche; TRANCHES],
     count: u32,
-    low_significands: &mut [u32],
-    high_significands: &mut [u32],
-    low_exponents: &mut [i32],
-    high_exponents: &mut [i32],
-) -> FilledLosses
-    ensures { Replies loss_refusal distance_for pool head tranches count
-        (store low_significands.old high_significands.old low_exponents.old high_exponents.old)
-        (store low_significands.new high_significands.new low_exponents.new high_exponents.new)
-        result.answer.refusal
+    store: &mut StoreMut<'_>,
+) -> Filled<Answer>
+    ensures same { SameStore store.old store.new }
+    ensures replies { Replies loss_refusal distance_for pool head tranches count
+        (contents_mut store.old)
+        (contents_mut store.new)
+        (refusal_number result.answer.outcome)
         result.head
         (losses_in result.answer.losses) }
 {
-    let refusal = refusals::loss_refusal(
-        LARGEST_POOL,
-        pool.assets,
-        pool.probability,
-        pool.correlation,
-        tranches,
-        count,
-        Lengths {
-            low_significands: low_significands.len(),
-            high_significands: high_significands.len(),
-            low_exponents: low_exponents.len(),
-            high_exponents: high_exponents.len(),
-        },
-    );
-    if refusal != 0 {
-        let answer = expected_losses::refused(refusal);
-        return FilledLosses { answer, head };
+    let outcome = refusals::loss_refusal(LARGEST_POOL, pool, tranches, count, store.lengths());
+    if outcome.is_err() {
+        let losses = expected_losses::untouched();
+        let answer = Answer { outcome, losses };
+        return Filled { answer, head };
     }
-    let rows = fill_both(
-        pool,
-        low_significands,
-        high_significands,
-        low_exponents,
-        high_exponents,
-    );
-    let low = rows.low;
-    let high = rows.high;
-    let answer = expected_losses::tranche_losses(pool.assets, low, high, tranches, count);
-    FilledLosses { answer, head: pool }
+    let rows = fill_both(pool, store);
+    let losses = expected_losses::tranche_losses(pool.assets, rows, tranches, count);
+    let answer = Answer { outcome, losses };
+    Filled { answer, head: pool }
 }

@@ -1,10 +1,10 @@
 // Prints the column of a pool.
+ghost use Rattle.grounds.specs.Refusals.{refusal_number};
 ghost use Rattle.steps.specs.Inputs.{distance_for};
-ghost use Rattle.store.specs.Stores.{store};
+ghost use Rattle.store.specs.Lent.{contents_mut, SameStore};
 ghost use Rattle.pool.specs.Calls.{column_refusal, Prints};
 
-use super::{Filled, Pool};
-use grounds::Lengths;
+use super::{Filled, Pool, Refusal, StoreMut};
 use steps::LARGEST_POOL;
 use store::fill_both;
 
@@ -13,47 +13,23 @@ use store::fill_both;
 pub fn column(
     pool: Pool,
     head: Pool,
-    low_significands: &mut [u32],
-    high_significands: &mut [u32],
-    low_exponents: &mut [i32],
-    high_exponents: &mut [i32],
+    store: &mut StoreMut<'_>,
     units: &mut [u32],
-) -> Filled
-    ensures { Prints column_refusal distance_for pool head
-        (store low_significands.old high_significands.old low_exponents.old high_exponents.old)
-        (store low_significands.new high_significands.new low_exponents.new high_exponents.new)
+) -> Filled<Result<(), Refusal>>
+    ensures same { SameStore store.old store.new }
+    ensures prints { Prints column_refusal distance_for pool head
+        (contents_mut store.old)
+        (contents_mut store.new)
         units.old
         units.new
-        result.refusal
+        (refusal_number result.answer)
         result.head }
 {
-    let refusal = refusals::column_refusal(
-        LARGEST_POOL,
-        pool.assets,
-        pool.probability,
-        pool.correlation,
-        Lengths {
-            low_significands: low_significands.len(),
-            high_significands: high_significands.len(),
-            low_exponents: low_exponents.len(),
-            high_exponents: high_exponents.len(),
-        },
-        units.len(),
-    );
-    if refusal != 0 {
-        return Filled { refusal, head };
+    let answer = refusals::column_refusal(LARGEST_POOL, pool, store.lengths(), units.len());
+    if answer.is_err() {
+        return Filled { answer, head };
     }
-    let rows = fill_both(
-        pool,
-        low_significands,
-        high_significands,
-        low_exponents,
-        high_exponents,
-    );
-    let row = rows.low;
-    chances::tails::print_column(pool.assets, row, units);
-    Filled {
-        refusal: 0,
-        head: pool,
-    }
+    let rows = fill_both(pool, store);
+    chances::tails::print_column(pool.assets, rows.low, units);
+    Filled { answer, head: pool }
 }

@@ -1,11 +1,21 @@
 // The answer of the program `column` to its input, whole.
 #![tactic(auto)]
 
-ghost use Rattle.reply.specs.Reply.{Carries, AnswersPool, AnswersInput, AnswersStart};
+ghost use Rattle.std.specs.Prelude.{◌≡◌};
+ghost use Rattle.model.specs.CorrelatedBinomial.{defaults};
+ghost use Rattle.kept.specs.declared.Side.TheVariants.{Low};
+ghost use Rattle.steps.specs.Column.{tenths};
+ghost use Rattle.steps.specs.CorrelatedBinomial.{kept_defaults};
+ghost use Rattle.steps.specs.Inputs.{report_pool, tenths_for};
+ghost use Rattle.steps.specs.Promises.{HoldsColumn};
+ghost use Rattle.grounds.specs.Grounds.{first_ground, pool_grounds};
+ghost use Rattle.reply.specs.Reply.{AnswersPool, AnswersInput, AnswersStart};
 
-use pool::Pool;
+use arrayvec::ArrayVec;
+use pool::{Pool, StoreMut};
 use steps::REPORT_POOL;
-use text::line::Line;
+use text::line::read_line;
+use text::table::{column_text, refused_line, refused_text};
 
 // The rows of the largest pool that is answered: 65.
 const ROWS: usize = REPORT_POOL as usize + 1;
@@ -14,74 +24,69 @@ const ROWS: usize = REPORT_POOL as usize + 1;
 const STORE: usize = ROWS * (ROWS + 1) / 2;
 
 // The bytes of the longest text: 1,125, a header of 20 and 65 lines of at most 17.
-const TEXT: usize = 20 + ROWS * 17;
+pub const TEXT: usize = 20 + ROWS * 17;
 
 // How many bytes of an input are read. A line has at most 18, so that one byte more decides.
 pub const START: usize = 64;
 
-// A text of the first `length` bytes.
-#[derive(Clone, Copy)]
-pub struct Reply {
-    pub text: [u8; TEXT],
-    pub length: usize,
+const EMPTY: Pool = Pool {
+    assets: 0,
+    probability: 0,
+    correlation: 0,
+};
+
+// The text that answers an input.
+pub type Reply = ArrayVec<u8, TEXT>;
+
+// The column of a pool that no ground refuses.
+fn column_units(pool: Pool) -> [u32; ROWS]
+    requires { first_ground (pool_grounds report_pool pool.assets pool.probability pool.correlation) ≡ 0 }
+    ensures { HoldsColumn (tenths (tenths_for pool.assets))
+        (defaults pool.assets pool.probability pool.correlation)
+        (kept_defaults Low pool.assets pool.probability pool.correlation) result }
+{
+    let mut low_significands = [0; STORE];
+    let mut high_significands = [0; STORE];
+    let mut low_exponents = [0; STORE];
+    let mut high_exponents = [0; STORE];
+    let mut units = [0; ROWS];
+    let mut store = StoreMut {
+        low_significands: &mut low_significands[..],
+        high_significands: &mut high_significands[..],
+        low_exponents: &mut low_exponents[..],
+        high_exponents: &mut high_exponents[..],
+    };
+    pool::column(pool, EMPTY, &mut store, &mut units);
+    units
 }
 
 // The answer to a line: the table of the pool's column, or the number of the refusal.
-fn column_reply(n: u32, p: u32, rho: u32) -> Reply
-    ensures { Carries (AnswersPool n p rho) result }
+#[tactic(auto, unfolding(steps::specs::Inputs::report_pool, steps::specs::Column::units_of_certainty, model::specs::CorrelatedBinomial::defaults), using(crate::specs::Reply::Laws::refusal_answer, crate::specs::Reply::Laws::table_answer, grounds::specs::Grounds::Laws::pool_accepted))]
+fn column_reply(pool: Pool) -> Reply
+    ensures { AnswersPool pool.assets pool.probability pool.correlation result.items }
 {
-    let mut text = [0u8; TEXT];
-    let refusal = grounds::pool_refusal(REPORT_POOL, n, p, rho);
-    if refusal != 0 {
-        let length = text::table::write_refused(refusal, &mut text);
-        return Reply { text, length };
+    match grounds::pool_refusal(REPORT_POOL, pool) {
+        Ok(()) => column_text(pool.assets, &column_units(pool)),
+        Err(refusal) => refused_text(refusal.into()),
     }
-    let mut low_significands = [0u32; STORE];
-    let mut high_significands = [0u32; STORE];
-    let mut low_exponents = [0i32; STORE];
-    let mut high_exponents = [0i32; STORE];
-    let mut units = [0u32; ROWS];
-    let pool = Pool {
-        assets: n,
-        probability: p,
-        correlation: rho,
-    };
-    let empty = Pool {
-        assets: 0,
-        probability: 0,
-        correlation: 0,
-    };
-    pool::column(
-        pool,
-        empty,
-        &mut low_significands,
-        &mut high_significands,
-        &mut low_exponents,
-        &mut high_exponents,
-        &mut units,
-    );
-    let length = text::table::write_table(n, &units, &mut text);
-    Reply { text, length }
 }
 
 // Any bytes may be given.
+#[tactic(auto, using(crate::specs::Reply::Laws::line_answer, crate::specs::Reply::Laws::no_line_answer))]
 fn reply_to(input: &[u8]) -> Reply
-    ensures { Carries (AnswersInput input.now) result }
+    ensures { AnswersInput input.now result.items }
 {
-    match text::line::read_line(input) {
-        Line::Inputs(n, p, rho) => column_reply(n, p, rho),
-        Line::Refused => {
-            let mut text = [0u8; TEXT];
-            let length = text::table::write_refused_line(&mut text);
-            Reply { text, length }
-        }
+    match read_line(input) {
+        Some(pool) => column_reply(pool),
+        None => refused_line(),
     }
 }
 
 // The first bytes of an input, and how many there are: all of it, or as many as there is room for. The answer is that to the whole
-// input, whatever follows them.
+// input, whatever follows them. The buffer comes as an array, so that no shorter one can be handed over.
+#[tactic(auto, using(crate::specs::Reply::Laws::part_answers))]
 pub fn reply_to_start(start: [u8; START], count: usize) -> Reply
-    ensures { Carries (AnswersStart start count) result }
+    ensures { AnswersStart start count result.items }
 {
     if count < START {
         return reply_to(&start[..count]);

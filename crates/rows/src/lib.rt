@@ -1,18 +1,20 @@
 // The rows of a pool, for one side: steps 1 to 3.
-#![tactic(auto)]
+#![tactic(auto, unfolding(steps::specs::Inputs::working_assets, working::specs::Working::working_places))]
 
 ghost use Rattle.std.specs.Prelude.{◌≡◌, suc, ◌≤◌};
 ghost use Rattle.model.specs.Fraction.{whole};
 ghost use Rattle.steps.specs.CorrelatedBinomial.Rows.{kept_weight, kept_row};
 ghost use Rattle.steps.specs.Inputs.{working_assets, InRange};
 ghost use Rattle.working.specs.Working.{working_places, Entries};
-ghost use Rattle.working.specs.Slices.{side_store, Stored};
+ghost use Rattle.working.specs.Slices.{Stored};
+ghost use Rattle.working.specs.Lent.{numbers, numbers_mut, SameSlices};
 ghost use Rattle.rows.specs.Turns.{recurrence, Continuable, Continued, Weighable, Passable, Passed, Turnable, Turned};
 ghost use Rattle.rows.specs.Filling.{Fillable, Filled};
 
 use kept::{Kept, Side};
 use model::WHOLE;
-use working::{PLACES, number_at, put_number, read_row};
+use steps::Pool;
+use working::{Numbers, NumbersMut, PLACES};
 
 // ρ and q = 1 − ρ, and the numbers p_(k+1) and m_(k+1) of step 2.
 #[derive(Clone, Copy)]
@@ -25,13 +27,14 @@ struct Recurrence {
 
 impl Recurrence {
     // p_1 and m_1.
-    fn first(p: u32, rho: u32, side: Side) -> Recurrence
-        requires { rho ≤ whole }
-        ensures { result ≡ recurrence side p rho 0 }
+    #[tactic(auto, unfolding(model::specs::Fraction::whole, model::specs::Fraction::complement, steps::specs::CorrelatedBinomial::Rows::constant, steps::specs::CorrelatedBinomial::Rows::kept_conditional, steps::specs::CorrelatedBinomial::Rows::kept_joint, crate::specs::Turns::recurrence))]
+    fn first(pool: Pool, side: Side) -> Recurrence
+        requires { pool.correlation ≤ whole }
+        ensures { result ≡ recurrence side pool.probability pool.correlation 0 }
     {
-        let correlation = Kept::from_basis_points(rho, side);
-        let q = Kept::from_basis_points(WHOLE - rho, side);
-        let conditional = Kept::from_basis_points(p, side);
+        let correlation = Kept::from_basis_points(pool.correlation, side);
+        let q = Kept::from_basis_points(WHOLE - pool.correlation, side);
+        let conditional = Kept::from_basis_points(pool.probability, side);
         Recurrence {
             correlation,
             q,
@@ -45,30 +48,33 @@ impl Recurrence {
         requires { Continuable side self }
         ensures { Continued side self result }
     {
-        let correlation = self.correlation;
-        let q = self.q;
-        let conditional = self.conditional.product(q, side).sum(correlation, side);
+        let conditional = self
+            .conditional
+            .product(self.q, side)
+            .sum(self.correlation, side);
         let joint = self.joint.product(conditional, side);
         Recurrence {
-            correlation,
-            q,
             conditional,
             joint,
+            ..self
         }
     }
 }
 
 // g_0 to g_(n−1), from the first place on.
-fn weights(p: u32, rho: u32, n: usize, side: Side, significands: &mut [u32], exponents: &mut [i32])
-    requires { Weighable n p rho (side_store significands.old exponents.old) }
-    ensures { Stored (kept_weight side p rho) n 0 (side_store significands.old exponents.old)
-        (side_store significands.new exponents.new) }
+#[tactic(auto, unfolding(model::specs::Fraction::whole))]
+fn weights(pool: Pool, side: Side, numbers: &mut NumbersMut<'_>)
+    requires { Weighable pool.assets pool.probability pool.correlation (numbers_mut numbers.old) }
+    ensures same { SameSlices numbers.old numbers.new }
+    ensures weights { Stored (kept_weight side pool.probability pool.correlation) pool.assets 0
+        (numbers_mut numbers.old) (numbers_mut numbers.new) }
 {
-    let a = Kept::from_basis_points(WHOLE - p, side);
-    let q = Kept::from_basis_points(WHOLE - rho, side);
+    let a = Kept::from_basis_points(WHOLE - pool.probability, side);
+    let q = Kept::from_basis_points(WHOLE - pool.correlation, side);
     let mut power = Kept::one();
-    for j in 0..n {
-        put_number(a.product(power, side), j, significands, exponents);
+    // By index: the numbers of a side stand in two slices.
+    for j in 0..pool.assets as usize {
+        numbers.put(j, a.product(power, side));
         power = power.product(q, side);
     }
 }
@@ -80,14 +86,14 @@ fn passes(
     from: usize,
     correlation: Kept,
     side: Side,
-    significands: &[u32],
-    exponents: &[i32],
+    rows: &Numbers<'_>,
 ) -> [Kept; PLACES]
-    requires { Passable side k from correlation (side_store significands.now exponents.now) }
-    ensures { Passed side correlation k k from (side_store significands.now exponents.now) result }
+    requires { Passable side k from correlation (numbers rows.now) }
+    ensures { Passed side correlation k k from (numbers rows.now) result }
 {
-    let mut w = read_row(k + 1, from, significands, exponents);
+    let mut w = rows.row(k + 1, from);
     for s in 0..k {
+        // By index: an entry is made of two neighbours.
         for j in 0..k - s {
             let x = w[j];
             let y = w[j + 1];
@@ -104,106 +110,80 @@ fn turn(
     to: usize,
     step: Recurrence,
     side: Side,
-    weight_significands: &[u32],
-    weight_exponents: &[i32],
-    significands: &mut [u32],
-    exponents: &mut [i32],
+    weights: &Numbers<'_>,
+    rows: &mut NumbersMut<'_>,
 )
-    requires { Turnable side k from to step (side_store weight_significands.now weight_exponents.now)
-        (side_store significands.old exponents.old) }
-    ensures { Turned side k (suc (suc k)) from to step
-        (side_store weight_significands.now weight_exponents.now)
-        (side_store significands.old exponents.old)
-        (side_store significands.new exponents.new) }
+    requires { Turnable side k from to step (numbers weights.now) (numbers_mut rows.old) }
+    ensures same { SameSlices rows.old rows.new }
+    ensures turned { Turned side k (suc (suc k)) from to step
+        (numbers weights.now)
+        (numbers_mut rows.old)
+        (numbers_mut rows.new) }
 {
-    let w = passes(k, from, step.correlation, side, significands, exponents);
+    let w = passes(k, from, step.correlation, side, &rows.shared());
     let count = k + 1;
+    // By index: the numbers of a side stand in two slices.
     for j in 0..count {
-        let g = number_at(j, weight_significands, weight_exponents);
-        put_number(w[j].product(g, side), to + j, significands, exponents);
+        let g = weights.at(j);
+        rows.put(to + j, w[j].product(g, side));
     }
-    put_number(step.joint, to + count, significands, exponents);
+    rows.put(to + count, step.joint);
 }
 
 // Fills rows 0 to n of one side, and hands back row n.
-pub fn fill_side(
-    n: u32,
-    p: u32,
-    rho: u32,
-    side: Side,
-    significands: &mut [u32],
-    exponents: &mut [i32],
-) -> [Kept; PLACES]
-    requires { Fillable n p rho (side_store significands.old exponents.old) }
-    ensures { Filled side n p rho (side_store significands.old exponents.old)
-        (side_store significands.new exponents.new) result }
+pub fn fill_side(pool: Pool, side: Side, numbers: &mut NumbersMut<'_>) -> [Kept; PLACES]
+    requires { Fillable pool.assets pool.probability pool.correlation (numbers_mut numbers.old) }
+    ensures same { SameSlices numbers.old numbers.new }
+    ensures filled { Filled side pool.assets pool.probability pool.correlation
+        (numbers_mut numbers.old) (numbers_mut numbers.new) result }
 {
-    let count = n as usize;
+    let count = pool.assets as usize;
     let mut weight_significands = [0u32; PLACES];
     let mut weight_exponents = [0i32; PLACES];
-    weights(
-        p,
-        rho,
-        count,
-        side,
-        &mut weight_significands,
-        &mut weight_exponents,
-    );
-    let mut step = Recurrence::first(p, rho, side);
-    put_number(Kept::one(), 0, significands, exponents);
+    let mut places = NumbersMut {
+        significands: &mut weight_significands,
+        exponents: &mut weight_exponents,
+    };
+    weights(pool, side, &mut places);
+    let weights = places.shared();
+    let mut step = Recurrence::first(pool, side);
+    numbers.put(0, Kept::one());
     let mut at: usize = 0;
     for k in 0..count {
         let to = at + k + 1;
-        turn(
-            k,
-            at,
-            to,
-            step,
-            side,
-            &weight_significands,
-            &weight_exponents,
-            significands,
-            exponents,
-        );
+        turn(k, at, to, step, side, &weights, numbers);
         at = to;
         step = step.next(side);
     }
-    read_row(count + 1, at, significands, exponents)
+    numbers.shared().row(count + 1, at)
 }
 
 // Row n of one side, with no store: each row is written over the one before.
-pub fn last_row(n: u32, p: u32, rho: u32, side: Side) -> [Kept; PLACES]
-    requires { InRange working_assets n p rho }
-    ensures { Entries working_places (suc n) result (kept_row side p rho n) }
+pub fn last_row(pool: Pool, side: Side) -> [Kept; PLACES]
+    requires { InRange working_assets pool.assets pool.probability pool.correlation }
+    ensures { Entries working_places (suc pool.assets) result
+        (kept_row side pool.probability pool.correlation pool.assets) }
 {
-    let last = n as usize;
+    let last = pool.assets as usize;
     let mut weight_significands = [0u32; PLACES];
     let mut weight_exponents = [0i32; PLACES];
-    weights(
-        p,
-        rho,
-        last,
-        side,
-        &mut weight_significands,
-        &mut weight_exponents,
-    );
+    let mut places = NumbersMut {
+        significands: &mut weight_significands,
+        exponents: &mut weight_exponents,
+    };
+    weights(pool, side, &mut places);
+    let weights = places.shared();
     let mut significands = [0u32; PLACES];
     let mut exponents = [0i32; PLACES];
-    let mut step = Recurrence::first(p, rho, side);
-    put_number(Kept::one(), 0, &mut significands, &mut exponents);
+    let mut numbers = NumbersMut {
+        significands: &mut significands,
+        exponents: &mut exponents,
+    };
+    let mut step = Recurrence::first(pool, side);
+    numbers.put(0, Kept::one());
     for k in 0..last {
-        turn(
-            k,
-            0,
-            0,
-            step,
-            side,
-            &weight_significands,
-            &weight_exponents,
-            &mut significands,
-            &mut exponents,
-        );
+        turn(k, 0, 0, step, side, &weights, &mut numbers);
         step = step.next(side);
     }
-    read_row(last + 1, 0, &significands, &exponents)
+    numbers.shared().row(last + 1, 0)
 }

@@ -5,7 +5,7 @@ use Rattle.steps.specs.declared.Tranche.{Tranche}
 use Rattle.steps.specs.Loss.{LossAnswer}
 use Rattle.steps.specs.Inputs.{largest_pool, distance_for, screen_pool, screen_distance}
 use Rattle.grounds.specs.Grounds.{first_ground, screen_column_grounds, screen_loss_grounds, Screens}
-use Rattle.store.specs.declared.Pool.{Pool}
+use Rattle.steps.specs.declared.Pool.{Pool}
 use Rattle.store.specs.Stores.{Store, lengths}
 use Rattle.pool.specs.Calls.{column_refusal, Prints, loss_refusal, Replies}
 pub mod Laws

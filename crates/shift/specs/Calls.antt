@@ -11,7 +11,7 @@ use Rattle.steps.specs.Inputs.{report_pool, distance_for, shift_tenths}
 use Rattle.steps.specs.Promises.{HoldsSteps, HoldsShifts}
 use Rattle.working.specs.Slices.{entries_after}
 use Rattle.grounds.specs.Grounds.{first_ground, shift_grounds}
-use Rattle.store.specs.declared.Pool.{Pool}
+use Rattle.steps.specs.declared.Pool.{Pool}
 use Rattle.store.specs.Stores.{Store, lengths}
 use Rattle.store.specs.Calls.{Fills}
 pub mod Laws

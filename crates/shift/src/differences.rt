@@ -26,6 +26,7 @@ fn write_differences(n: u32, printed: [u32; TAILS], base: [u32; TAILS], shifts: 
     ensures { shifts.new ≡ entries_after n (shift_at printed base) 0 shifts.old }
 {
     let places = n as usize + 1;
+    // By index, which is the place in each array: an iterator would have to be counted beside it.
     for k in 0..places {
         let shift = difference(printed[k], base[k]);
         shifts[k] = shift;

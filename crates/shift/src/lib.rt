@@ -1,16 +1,16 @@
 // Where correlation moves the chances of a pool of at most 64 assets: the shift list. Any numbers and slices of any length may be
-// given. The call answers, or refuses by the number of the first ground that applies and leaves every slice untouched.
+// given. The call answers, or refuses by the first ground that applies and leaves every slice untouched.
 #![tactic(auto)]
 
 mod differences;
 
-ghost use Rattle.store.specs.Stores.{store};
+ghost use Rattle.grounds.specs.Refusals.{refusal_number};
+ghost use Rattle.store.specs.Lent.{contents_mut, SameStore};
 ghost use Rattle.shift.specs.Calls.{ListsShifts};
 
 use differences::print_shifts;
-use grounds::Lengths;
 use kept::Side;
-use pool::{Filled, Pool};
+use pool::{Filled, Pool, Refusal, StoreMut};
 use steps::REPORT_POOL;
 use store::fill_both;
 
@@ -19,48 +19,28 @@ use store::fill_both;
 pub fn shift_list(
     pool: Pool,
     head: Pool,
-    low_significands: &mut [u32],
-    high_significands: &mut [u32],
-    low_exponents: &mut [i32],
-    high_exponents: &mut [i32],
+    store: &mut StoreMut<'_>,
     shifts: &mut [i32],
-) -> Filled
-    ensures { ListsShifts pool head
-        (store low_significands.old high_significands.old low_exponents.old high_exponents.old)
-        (store low_significands.new high_significands.new low_exponents.new high_exponents.new)
+) -> Filled<Result<(), Refusal>>
+    ensures same { SameStore store.old store.new }
+    ensures lists { ListsShifts pool head
+        (contents_mut store.old)
+        (contents_mut store.new)
         shifts.old
         shifts.new
-        result.refusal
+        (refusal_number result.answer)
         result.head }
 {
-    let refusal = refusals::shift_refusal(
-        REPORT_POOL,
-        pool.assets,
-        pool.probability,
-        pool.correlation,
-        Lengths {
-            low_significands: low_significands.len(),
-            high_significands: high_significands.len(),
-            low_exponents: low_exponents.len(),
-            high_exponents: high_exponents.len(),
-        },
-        shifts.len(),
-    );
-    if refusal != 0 {
-        return Filled { refusal, head };
+    let answer = refusals::shift_refusal(REPORT_POOL, pool, store.lengths(), shifts.len());
+    if answer.is_err() {
+        return Filled { answer, head };
     }
-    let filled = fill_both(
-        pool,
-        low_significands,
-        high_significands,
-        low_exponents,
-        high_exponents,
-    );
-    let row = filled.low;
-    let base = rows::last_row(pool.assets, pool.probability, 0, Side::Low);
-    print_shifts(pool.assets, row, base, shifts);
-    Filled {
-        refusal: 0,
-        head: pool,
-    }
+    let rows = fill_both(pool, store);
+    let uncorrelated = Pool {
+        correlation: 0,
+        ..pool
+    };
+    let base = rows::last_row(uncorrelated, Side::Low);
+    print_shifts(pool.assets, rows.low, base, shifts);
+    Filled { answer, head: pool }
 }

@@ -23,9 +23,7 @@ use Rattle.steps.specs.Column.{units_of_certainty, exact_units, half, to_nearest
 use Rattle.steps.specs.Shifts.{tail_shift}
 use Rattle.steps.specs.CorrelatedBinomial.{kept_defaults}
 use Rattle.steps.specs.Loss.{untouched, faint, shown, kept_least_shown, raised_to_shown, loss_answer}
-use Rattle.steps.specs.declared.Verdict.{Verdict}
-use Rattle.steps.specs.declared.Verdict.TheVariants.{Refused, Passed, Fails}
-use Rattle.steps.specs.Claims.{passes, first_to_fail, refusal_in, verdict_on, verdict_after}
+use Rattle.steps.specs.Claims.{passes, first_to_fail, refusal_in, verdict_on, verdict_after, VerdictAnswer, refused_by, all_pass, fails_at}
 pub mod Rules
 
 -- s × 2^−(n+1)
@@ -58,7 +56,7 @@ abbrev three_shift : ℕ → ℤ
 three_shift k = tail_shift 3 (kept_defaults Low 3 1000 3000) (kept_defaults Low 3 1000 0) k
 
 -- The verdict on claimed rows.
-abbrev verdict_for : (n p ρ : ℕ) → List ℕ → Verdict
+abbrev verdict_for : (n p ρ : ℕ) → List ℕ → VerdictAnswer
 verdict_for n p ρ = verdict_on n (λ side. kept_defaults side n p ρ)
 
 pub cases :
@@ -123,19 +121,19 @@ pub cases :
     × (kept_row High 0 3000 1 1 ≡ record { significand = 0; exponent = pos 0 })
     × Digits (λ side. kept_row side 0 3000 1 0) 2147483648 2147483648 30
     -- Chances of 17/64, 26,562.5 units, and of 46,875: claims half a unit off, above and below; one and a half off; one off, above and below. With three rows wrong the first is named.
-    × (verdict_for 2 5000 625 (26562 ∷ 46875 ∷ 26563 ∷ []) ≡ Passed)
-    × (verdict_for 2 5000 625 (26563 ∷ 46875 ∷ 26562 ∷ []) ≡ Passed)
-    × (verdict_for 2 5000 625 (26562 ∷ 46875 ∷ 26564 ∷ []) ≡ Fails 2)
-    × (verdict_for 2 5000 625 (26562 ∷ 46876 ∷ 26562 ∷ []) ≡ Fails 1)
-    × (verdict_for 2 5000 625 (26562 ∷ 46874 ∷ 26562 ∷ []) ≡ Fails 1)
-    × (verdict_for 2 5000 625 (26561 ∷ 46876 ∷ 26561 ∷ []) ≡ Fails 0)
+    × (verdict_for 2 5000 625 (26562 ∷ 46875 ∷ 26563 ∷ []) ≡ all_pass)
+    × (verdict_for 2 5000 625 (26563 ∷ 46875 ∷ 26562 ∷ []) ≡ all_pass)
+    × (verdict_for 2 5000 625 (26562 ∷ 46875 ∷ 26564 ∷ []) ≡ fails_at 2)
+    × (verdict_for 2 5000 625 (26562 ∷ 46876 ∷ 26562 ∷ []) ≡ fails_at 1)
+    × (verdict_for 2 5000 625 (26562 ∷ 46874 ∷ 26562 ∷ []) ≡ fails_at 1)
+    × (verdict_for 2 5000 625 (26561 ∷ 46876 ∷ 26561 ∷ []) ≡ fails_at 0)
     -- The column that is printed, where it passes and where it fails; the chances of the second rounded to nearest, with one number too many.
-    × (verdict_for 3 1000 3000 (79032 ∷ 14005 ∷ 4895 ∷ 2068 ∷ []) ≡ Passed)
-    × (verdict_for 3 500 500 (86393 ∷ 12284 ∷ 1253 ∷ 70 ∷ []) ≡ Fails 2)
-    × (verdict_for 3 500 500 (86393 ∷ 12284 ∷ 1254 ∷ 70 ∷ 4294967295 ∷ []) ≡ Passed)
+    × (verdict_for 3 1000 3000 (79032 ∷ 14005 ∷ 4895 ∷ 2068 ∷ []) ≡ all_pass)
+    × (verdict_for 3 500 500 (86393 ∷ 12284 ∷ 1253 ∷ 70 ∷ []) ≡ fails_at 2)
+    × (verdict_for 3 500 500 (86393 ∷ 12284 ∷ 1254 ∷ 70 ∷ 4294967295 ∷ []) ≡ all_pass)
     -- A refusal has its number.
-    × (verdict_after 3 (λ side. kept_defaults side 3 500 500) [] 8 ≡ Refused 8)
-    × (refusal_in (Refused 8) ≡ 8)
+    × (verdict_after 3 (λ side. kept_defaults side 3 500 500) [] 8 ≡ refused_by 8)
+    × (refusal_in (refused_by 8) ≡ 8)
 unfolding scaled nought unity increment carry round rounded_product rounded_sum rounded_quotient of_integer of_basis_points size choose raise integer plus times divided whole complement over pascal_row pass passed loss_above loss_units constant kept_conditional kept_joint kept_power kept_weight kept_pass_step kept_row kept_total up_to exact_assets summed_count kept_count kept_chance kept_chances kept_tail kept_term kept_loss kept_layer units_of_certainty exact_units half whole_of to_nearest in_units printed_tail printed_row tail_shift kept_defaults least_shown below_shown kept_least_shown raised_to_shown loss_answer minus at_most passes first_to_fail refusal_in verdict_on verdict_after
 cases = (
   (refl, refl),

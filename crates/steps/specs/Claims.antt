@@ -8,8 +8,6 @@ use Rattle.kept.specs.declared.Side.{Side}
 use Rattle.kept.specs.declared.Side.TheVariants.{Low, High}
 use Rattle.kept.specs.Rounding.{value}
 use Rattle.steps.specs.Column.{exact_units, half, AtMostApart}
-use Rattle.steps.specs.declared.Verdict.{Verdict}
-use Rattle.steps.specs.declared.Verdict.TheVariants.{Refused, Passed, Fails}
 
 -- ---- one row
 
@@ -26,16 +24,22 @@ passes low high claim = at_most (exact_units (value low)) (plus (integer claim) 
 
 -- ---- the answer
 
+-- What a check of a claimed column answers: the number of a refusal; that every row passes; or the first row that fails.
+pub data VerdictAnswer : Type 0 where
+  refused_by : (number : ℕ) → VerdictAnswer
+  all_pass : VerdictAnswer
+  fails_at : (k : ℕ) → VerdictAnswer
+
 -- The first of so many rows from k on that fails a test.
-unfoldable pub first_to_fail : (test : ℕ → Bool) (rows k : ℕ) → Verdict
-first_to_fail test zero k = Passed
-first_to_fail test (suc rows) k = cond (test k) (first_to_fail test rows (suc k)) (Fails k)
+unfoldable pub first_to_fail : (test : ℕ → Bool) (rows k : ℕ) → VerdictAnswer
+first_to_fail test zero k = all_pass
+first_to_fail test (suc rows) k = cond (test k) (first_to_fail test rows (suc k)) (fails_at k)
 
 -- The number of a refusal, or 0.
-unfoldable pub refusal_in : Verdict → ℕ
-refusal_in (Refused number) = number
-refusal_in Passed = 0
-refusal_in (Fails k) = 0
+unfoldable pub refusal_in : VerdictAnswer → ℕ
+refusal_in (refused_by number) = number
+refusal_in all_pass = 0
+refusal_in (fails_at k) = 0
 
 -- Row k of a claim by the bounds of its chance.
 module _ (c : Side → ℕ → Kept) (claims : List ℕ) where
@@ -47,13 +51,13 @@ module _ (c : Side → ℕ → Kept) (claims : List ℕ) where
 
 module _ (n : ℕ) (c : Side → ℕ → Kept) (claims : List ℕ) where
   -- Rows 0 to n of the claim: the first that fails.
-  unfoldable pub verdict_on : Verdict
+  unfoldable pub verdict_on : VerdictAnswer
   verdict_on = first_to_fail (row_passes c claims) (suc n) 0
 
   -- What a call answers, by the number of its refusal.
-  unfoldable pub verdict_after : (refusal : ℕ) → Verdict
+  unfoldable pub verdict_after : (refusal : ℕ) → VerdictAnswer
   verdict_after zero = verdict_on
-  verdict_after (suc refusal) = Refused (suc refusal)
+  verdict_after (suc refusal) = refused_by (suc refusal)
 
   -- What an answer means, by the number that the grounds of the call give. Refused: that number, which is not 0. Passed: it is 0, and every row from 0 to n passes. Fails: it
   -- is 0, and row k is the first of them that does not pass.
@@ -71,7 +75,7 @@ module _ (n : ℕ) (c : Side → ℕ → Kept) (claims : List ℕ) where
     pub fails : RowPasses c claims k → ⊥
     pub before : (i : ℕ) → i < k → RowPasses c claims i
 
-  abbrev pub Means : (number : ℕ) → Verdict → Type 0
-  Means number (Refused refusal) = MeansRefused number refusal
-  Means number Passed = MeansPassed number
-  Means number (Fails k) = MeansFails number k
+  abbrev pub Means : (number : ℕ) → VerdictAnswer → Type 0
+  Means number (refused_by refusal) = MeansRefused number refusal
+  Means number all_pass = MeansPassed number
+  Means number (fails_at k) = MeansFails number k

@@ -17,9 +17,7 @@ use Rattle.steps.specs.Exponents.{Ranged}
 use Rattle.steps.specs.declared.Tranche.{Tranche}
 use Rattle.steps.specs.Loss.{LossAnswer, untouched, loss_answer, Says}
 use Rattle.steps.specs.Tranches.{tranche_at, recoveries, TranchesTouch, TranchesWide, exact_total, bound_total, carried_total}
-use Rattle.steps.specs.declared.Verdict.{Verdict}
-use Rattle.steps.specs.declared.Verdict.TheVariants.{Passed}
-use Rattle.steps.specs.Claims.{RowPasses}
+use Rattle.steps.specs.Claims.{RowPasses, VerdictAnswer, all_pass}
 use Rattle.steps.specs.Attachments.{AttachmentAnswer, refused, lowest, tranche_from}
 
 -- The bounds of chances, tails and the losses of tranches and layers enclose the exact values and are at most one part in g apart.
@@ -61,10 +59,10 @@ pub record HoldsShifts (off : Fraction) (r s : Chances) (low base : ℕ → Kept
 -- What holds of the answer to a claimed column. A row that is at most half a unit from 100,000 times the exact chance passes, and so does a column of such rows: that of
 -- exact chances each rounded to nearest, with what is half way up or down as each row likes. A row that passes is no further from that than half a unit and
 -- 100,000 × (high − low).
-pub record HoldsVerdict (r : Chances) (c : Side → ℕ → Kept) (claims : List ℕ) (verdict : Verdict) : Type 0 where
+pub record HoldsVerdict (r : Chances) (c : Side → ℕ → Kept) (claims : List ℕ) (verdict : VerdictAnswer) : Type 0 where
   pub near_row : (k : ℕ) → k ≤ r.assets → AtMostApart half (integer (get_or claims k 0)) (exact_units (chance r k)) → RowPasses c claims k
-  pub near_column : ((k : ℕ) → k ≤ r.assets → AtMostApart half (integer (get_or claims k 0)) (exact_units (chance r k))) → verdict ≡ Passed
-  pub rounded_column : (side : ℕ → Side) → ((k : ℕ) → k ≤ r.assets → get_or claims k 0 ≡ to_nearest (side k) (exact_units (chance r k))) → verdict ≡ Passed
+  pub near_column : ((k : ℕ) → k ≤ r.assets → AtMostApart half (integer (get_or claims k 0)) (exact_units (chance r k))) → verdict ≡ all_pass
+  pub rounded_column : (side : ℕ → Side) → ((k : ℕ) → k ≤ r.assets → get_or claims k 0 ≡ to_nearest (side k) (exact_units (chance r k))) → verdict ≡ all_pass
   pub passed_row : (k : ℕ) → k ≤ r.assets → RowPasses c claims k
       → AtMostApart (plus half (exact_units (minus (value (c High k)) (value (c Low k))))) (integer (get_or claims k 0)) (exact_units (chance r k))
 

@@ -1,20 +1,21 @@
 // The steps that make the bounds of a pool's chances, tails and losses. It has definitions and laws, in specs/, and no function.
 #![tactic(auto)]
 
+// A pool of equal assets. Default probability and correlation are in basis points. The head of a store, a term of the papers, is the
+// pool for which its rows were last filled.
+#[derive(Clone, Copy, Debug, PartialEq, Eq)]
+pub struct Pool {
+    pub assets: u32,
+    pub probability: u32,
+    pub correlation: u32,
+}
+
 // A tranche: what is recovered of a default, and the attachments, in basis points of the pool.
-#[derive(Clone, Copy)]
+#[derive(Clone, Copy, Debug, PartialEq, Eq)]
 pub struct Tranche {
     pub recovery: u32,
     pub lower: u32,
     pub upper: u32,
-}
-
-// What a check of a claimed column answers: the number of a refusal; that every row passes; or the first row that fails.
-#[derive(Clone, Copy)]
-pub enum Verdict {
-    Refused(u32),
-    Passed,
-    Fails(u32),
 }
 
 // The places for tranches in a loss call, and for losses in its answer.

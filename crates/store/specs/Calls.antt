@@ -11,7 +11,7 @@ use Rattle.steps.specs.Promises.{HoldsSteps}
 use Rattle.working.specs.Slices.{tabulate, overwritten}
 use Rattle.rows.specs.Store.{stored}
 use Rattle.grounds.specs.Grounds.{first_ground, fill_grounds, row_grounds}
-use Rattle.store.specs.declared.Pool.{Pool}
+use Rattle.steps.specs.declared.Pool.{Pool}
 use Rattle.store.specs.Stores.{Store, lengths, place, store_after, HoldsEntries}
 
 -- The refusal of `fill`. What it checks, every call that fills a store checks too.

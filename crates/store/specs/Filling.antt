@@ -6,7 +6,7 @@ use Rattle.kept.specs.declared.Side.{Side}
 use Rattle.kept.specs.declared.Side.TheVariants.{Low, High}
 use Rattle.steps.specs.CorrelatedBinomial.Rows.{kept_row}
 use Rattle.working.specs.Working.{working_places, Entries}
-use Rattle.store.specs.declared.Pool.{Pool}
+use Rattle.steps.specs.declared.Pool.{Pool}
 use Rattle.store.specs.Stores.{Store, store_after}
 pub mod Laws
 

@@ -1,3 +1,4 @@
 pub mod Stores
+pub mod Lent
 pub mod Calls
 pub mod Filling

@@ -1,7 +1,9 @@
 // Reads a row of a filled slice.
 ghost use Rattle.std.specs.Prelude.{◌≡◌};
+ghost use Rattle.grounds.specs.Refusals.{refusal_number};
 ghost use Rattle.store.specs.Calls.{HandsRow, row_refusal};
 
+use super::Refusal;
 use steps::LARGEST_POOL;
 
 // Row k of a slice of significands that a call for n assets has filled: the part of the caller's slice that holds it, k + 1
@@ -9,8 +11,7 @@ use steps::LARGEST_POOL;
 pub fn row(n: u32, k: u32, significands: &[u32]) -> &[u32]
     ensures { HandsRow n k significands.now result.now }
 {
-    let refusal = refusals::row_refusal(LARGEST_POOL, n, k, significands.len());
-    if refusal != 0 {
+    if row_refusal(n, k, significands).is_err() {
         return &significands[0..0];
     }
     let first = grounds::row_start(k);
@@ -18,9 +19,10 @@ pub fn row(n: u32, k: u32, significands: &[u32]) -> &[u32]
     &significands[first..end]
 }
 
-// The number of the refusal of `row` for the same inputs, or 0.
-pub fn row_refusal(n: u32, k: u32, significands: &[u32]) -> u32
-    ensures { result ≡ row_refusal n k significands.now }
+// The refusal of `row` for the same inputs.
+#[tactic(auto, unfolding(crate::specs::Calls::row_refusal, steps::specs::Inputs::largest_pool))]
+pub fn row_refusal(n: u32, k: u32, significands: &[u32]) -> Result<(), Refusal>
+    ensures { refusal_number result ≡ row_refusal n k significands.now }
 {
     refusals::row_refusal(LARGEST_POOL, n, k, significands.len())
 }

@@ -9,7 +9,7 @@ use Rattle.working.specs.Slices.{number_at}
 use Rattle.grounds.specs.Grounds.{store_places, file_bytes, first_ground, file_grounds, EachAtLeast, FillAccepted, AllKept}
 use Rattle.planes.specs.Planes.{AreBytes}
 use Rattle.planes.specs.Sides.{AllFit}
-use Rattle.store.specs.declared.Pool.{Pool}
+use Rattle.steps.specs.declared.Pool.{Pool}
 use Rattle.store.specs.Stores.{Store, lengths, side_of, HoldsEntries}
 use Rattle.store.specs.Calls.{head_after, Fills}
 use Rattle.store_file.specs.Files.{file_of, head_in, entries_in, store_with}

@@ -9,7 +9,7 @@ use Rattle.working.specs.Slices.{tabulate, overwritten, number_at}
 use Rattle.grounds.specs.Grounds.{store_places, file_bytes, EachAtLeast}
 use Rattle.planes.specs.Planes.{byte_of, planes, word_at, laid, pattern, signed}
 use Rattle.planes.specs.Sides.{word_of, array_of, side_arrays, number_in, side_after}
-use Rattle.store.specs.declared.Pool.{Pool}
+use Rattle.steps.specs.declared.Pool.{Pool}
 use Rattle.store.specs.Stores.{Store, store, lengths, side_of, HoldsEntries}
 use Rattle.store.specs.Calls.{Fills}
 use Rattle.pool.specs.Demands.{number_from, from_complement, head_of, entry_from, entry_of}

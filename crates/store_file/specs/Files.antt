@@ -8,7 +8,7 @@ use Rattle.working.specs.Slices.{number_at}
 use Rattle.grounds.specs.Grounds.{store_places}
 use Rattle.planes.specs.Planes.{laid, word_at}
 use Rattle.planes.specs.Sides.{side_arrays, number_in, side_after}
-use Rattle.store.specs.declared.Pool.{Pool}
+use Rattle.steps.specs.declared.Pool.{Pool}
 use Rattle.store.specs.Stores.{Store}
 pub mod Laws
 

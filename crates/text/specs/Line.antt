@@ -1,9 +1,8 @@
 -- Which input is a line: three decimal numbers, of five digits at most, with a single space before the second and the third and a newline as the last byte.
 -- Assumes nothing.
-use Rattle.std.specs.Prelude.{ℕ, ◌+◌, ◌*◌, ◌-◌, ◌≤◌, ◌≡◌, List, [], ◌∷◌, ◌++◌, length}
+use Rattle.std.specs.Prelude.{ℕ, ◌+◌, ◌*◌, ◌-◌, ◌≤◌, ◌≡◌, List, [], ◌∷◌, ◌++◌, length, Option, Some, None}
 use Prim.Native.Char.{code}
-use Rattle.text.specs.declared.line.Line.{Line}
-use Rattle.text.specs.declared.line.Line.TheVariants.{Refused, Inputs}
+use Rattle.steps.specs.declared.Pool.{Pool}
 pub mod Fields
 pub mod Laws
 
@@ -39,7 +38,7 @@ pub record Accepts (input : List ℕ) (n p ρ : ℕ) : Type 0 where
   pub p_decimal : Decimal p_digits p
   pub ρ_decimal : Decimal ρ_digits ρ
 
--- The answer to an input: the three numbers of the line that it is, or refused if it is none. `one_answer` shows that no input has two answers.
-abbrev pub ReadsLine : List ℕ → Line → Type 0
-ReadsLine input (Inputs n p ρ) = Accepts input n p ρ
-ReadsLine input Refused = (n p ρ : ℕ) → Accepts input n p ρ → ⊥
+-- The answer to an input: the three numbers of the line that it is, if it is one. `one_answer` shows that no input has two answers.
+abbrev pub ReadsLine : List ℕ → Option Pool → Type 0
+ReadsLine input (Some pool) = Accepts input pool.assets pool.probability pool.correlation
+ReadsLine input None = (n p ρ : ℕ) → Accepts input n p ρ → ⊥

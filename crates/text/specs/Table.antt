@@ -1,11 +1,10 @@
 -- The text that the program writes, as bytes: the table of a column, the line of a refusal.
 -- Assumes nothing.
-use Rattle.std.specs.Prelude.{ℕ, zero, suc, ◌+◌, ◌/◌, ◌%◌, cond, ◌≡◌, List, [], ◌∷◌, ◌++◌, ltb, length, drop, get_or}
+use Rattle.std.specs.Prelude.{ℕ, zero, suc, ◌+◌, ◌/◌, ◌%◌, cond, List, [], ◌∷◌, ◌++◌, ltb, get_or}
 use Prim.Native.Char.{code}
 use Rattle.model.specs.Number.{sum_between}
 use Rattle.text.specs.Ascii.{ascii}
 pub mod Laws
-pub mod Stores
 pub mod Lines
 
 -- The byte of a digit.
@@ -58,8 +57,3 @@ refused_text number = ascii "refused " ++ field_text number (code "\n")
 
 unfoldable pub refused_line : List ℕ
 refused_line = ascii "refused line\n"
-
--- A text stands at the start of a buffer, the places after it are as they were, and its length is the answer.
-pub record Writes (text before after : List ℕ) (answer : ℕ) : Type 0 where
-  pub count : answer ≡ length text
-  pub content : after ≡ text ++ drop (length text) before

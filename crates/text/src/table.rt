@@ -1,91 +1,87 @@
-// The text that the program writes, into a lent buffer. A function put_.. writes from a place on and answers with the place
-// after it, a function write_.. writes a whole text at the start and answers with its length.
+// The texts that the program writes. A function push_.. appends to a text.
 ghost use Rattle.std.specs.Prelude.{suc, ◌+◌, ◌*◌, ◌≤◌, ◌<◌, ◌≡◌, length};
+ghost use Rattle.arrayvec.specs.ArrayVec.{array_vec_len, Extends};
 ghost use Rattle.model.specs.Number.{sum};
-ghost use Rattle.buffer.specs.Stores.{HasRoom, Puts};
-ghost use Rattle.text.specs.Table.{decimal, field_text, line, row_of, column_text, refused_text, refused_line, Writes};
+ghost use Rattle.text.specs.Table as spec;
+ghost use Rattle.text.specs.Table.{field_text, line, row_of};
 
-use buffer::put_byte;
+use arrayvec::ArrayVec;
 use model::UNITS;
 
-fn put_bytes(text: &mut [u8], at: usize, bytes: &[u8]) -> usize
-    requires { HasRoom bytes.now at text.old }
-    ensures { Puts bytes.now at text.old text.new result }
+// The decimal digits of a number, of which a u32 has at most 10.
+#[tactic(auto, using(crate::specs::Table::Laws::decimal_digit, crate::specs::Table::Laws::decimal_more, crate::specs::Table::Laws::nine_digits))]
+fn decimal(number: u32) -> ArrayVec<u8, 10>
+    ensures { result.items ≡ spec.decimal number }
 {
-    let mut next = at;
-    let mut i = 0;
-    while i < bytes.len() {
-        next = put_byte(text, next, bytes[i]);
-        i += 1;
-    }
-    next
-}
-
-fn put_decimal(text: &mut [u8], at: usize, number: u32) -> usize
-    requires { HasRoom (decimal number) at text.old }
-    ensures { Puts (decimal number) at text.old text.new result }
-{
-    let digit = b'0' + (number % 10) as u8;
-    if number < 10 {
-        return put_byte(text, at, digit);
-    }
-    let last = put_decimal(text, at, number / 10);
-    put_byte(text, last, digit)
+    let mut digits = if number < 10 {
+        ArrayVec::new()
+    } else {
+        decimal(number / 10)
+    };
+    digits.push(b'0' + (number % 10) as u8);
+    digits
 }
 
 // A number and the byte that ends it.
-fn put_field(text: &mut [u8], at: usize, number: u32, end: u8) -> usize
-    requires { HasRoom (field_text number end) at text.old }
-    ensures { Puts (field_text number end) at text.old text.new result }
+#[tactic(auto, unfolding(crate::specs::Table::field_text))]
+fn push_field<const N: usize>(text: &mut ArrayVec<u8, N>, number: u32, end: u8)
+    requires { array_vec_len text.old + length (field_text number end) ≤ N }
+    ensures { Extends text.old (field_text number end) text.new }
 {
-    let next = put_decimal(text, at, number);
-    put_byte(text, next, end)
+    text.try_extend_from_slice(&decimal(number)).unwrap();
+    text.push(end);
 }
 
-fn put_line(text: &mut [u8], at: usize, defaults: u32, row: u32, tail: u32) -> usize
-    requires { HasRoom (line defaults row tail) at text.old }
-    ensures { Puts (line defaults row tail) at text.old text.new result }
+#[tactic(auto, unfolding(crate::specs::Table::line))]
+fn push_line<const N: usize>(text: &mut ArrayVec<u8, N>, defaults: u32, row: u32, tail: u32)
+    requires { array_vec_len text.old + length (line defaults row tail) ≤ N }
+    ensures { Extends text.old (line defaults row tail) text.new }
 {
-    let second = put_field(text, at, defaults, b' ');
-    let third = put_field(text, second, row, b' ');
-    put_field(text, third, tail, b'\n')
+    push_field(text, defaults, b' ');
+    push_field(text, row, b' ');
+    push_field(text, tail, b'\n');
 }
 
 // The table of a column, whose rows 0 to n add to 100,000 units. The tail goes down by each row.
-pub fn write_table(n: u32, units: &[u32], text: &mut [u8]) -> usize
+pub fn column_text<const N: usize>(n: u32, units: &[u32]) -> ArrayVec<u8, N>
     requires n_bound_1 { n ≤ 99 }
     requires n_bound_2 { n < length units.now }
     requires units_value { sum (suc n) (row_of units.now) ≡ 100000 }
-    requires n_in_bounds { 20 + suc n * 17 ≤ length text.old }
-    ensures { Writes (column_text n units.now) text.old text.new result }
+    requires n_in_bounds { 20 + suc n * 17 ≤ N }
+    ensures { result.items ≡ spec.column_text n units.now }
 {
-    let mut next = put_bytes(text, 0, b"defaults units tail\n");
-    let mut tail: u32 = UNITS;
-    let mut k: u32 = 0;
-    while k <= n {
+    let mut text = ArrayVec::new();
+    text.try_extend_from_slice(b"defaults units tail\n")
+        .unwrap();
+    let mut tail = UNITS;
+    for k in 0..n + 1 {
         let row = units[k as usize];
-        let rest = tail - row;
-        next = put_line(text, next, k, row, tail);
-        tail = rest;
-        k += 1;
+        push_line(&mut text, k, row, tail);
+        tail -= row;
     }
-    next
+    text
 }
 
 // The line of a refusal with a number.
-pub fn write_refused(number: u32, text: &mut [u8]) -> usize
+#[tactic(auto, using(crate::specs::Table::Laws::short_field), unfolding(crate::specs::Table::refused_text, crate::specs::Ascii::ascii))]
+pub fn refused_text<const N: usize>(number: u32) -> ArrayVec<u8, N>
     requires few { number ≤ 99 }
-    requires places { 11 ≤ length text.old }
-    ensures { Writes (refused_text number) text.old text.new result }
+    requires places { 11 ≤ N }
+    ensures { result.items ≡ spec.refused_text number }
 {
-    let next = put_bytes(text, 0, b"refused ");
-    put_field(text, next, number, b'\n')
+    let mut text = ArrayVec::new();
+    text.try_extend_from_slice(b"refused ").unwrap();
+    push_field(&mut text, number, b'\n');
+    text
 }
 
 // The line that answers an input which is no line.
-pub fn write_refused_line(text: &mut [u8]) -> usize
-    requires { 13 ≤ length text.old }
-    ensures { Writes refused_line text.old text.new result }
+#[tactic(auto, unfolding(crate::specs::Table::refused_line, crate::specs::Ascii::ascii))]
+pub fn refused_line<const N: usize>() -> ArrayVec<u8, N>
+    requires { 13 ≤ N }
+    ensures { result.items ≡ spec.refused_line }
 {
-    put_bytes(text, 0, b"refused line\n")
+    let mut text = ArrayVec::new();
+    text.try_extend_from_slice(b"refused line\n").unwrap();
+    text
 }

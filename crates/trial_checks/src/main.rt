@@ -6,7 +6,6 @@
 
 use std::io;
 use trial_inputs::given::{read_claims, read_length, read_lengths, read_pool};
-use trial_lines::LARGE_ROWS;
 use trial_pool::run_check;
 use trial_support::read_number;
 
@@ -16,10 +15,10 @@ fn run_case(rt: &(impl Input + Print)) -> io::Result<()> {
     let lengths = read_lengths(rt)?;
     let count = read_length(rt)?;
     let claims = read_claims(rt, count)?;
-    if count <= LARGE_ROWS {
-        run_check(rt, other, pool, &claims[0..count], lengths)?;
+    match claims.get(..count) {
+        Some(claims) => run_check(rt, other, pool, claims, lengths),
+        None => Ok(()),
     }
-    Ok(())
 }
 
 fn main(rt: HostRuntime) -> io::Result<()> {

@@ -4,25 +4,15 @@
 use std::rt::Files;
 use std::{fs, io};
 
-fn answer(rt: &(impl Files + Print + Alloc), tens: u32, ones: u32) -> io::Result<()> {
-    let name = format!(in rt.alloc(); "{tens}{ones}")?;
+fn answer(rt: &(impl Files + Print + Alloc), length: u32) -> io::Result<()> {
+    let name = format!(in rt.alloc(); "{length:02}")?;
     let mut file = fs::open(rt, name)?;
     console::answer_from(&mut file, &mut io::writer(rt))
 }
 
-fn answer_ten(rt: &(impl Files + Print + Alloc), tens: u32) -> io::Result<()> {
-    for ones in 0..10 {
-        answer(rt, tens, ones)?;
-    }
-    Ok(())
-}
-
 fn main(rt: HostRuntime) -> io::Result<()> {
-    for tens in 0..6 {
-        answer_ten(&rt, tens)?;
-    }
-    for ones in 0..5 {
-        answer(&rt, 6, ones)?;
+    for length in 0..65 {
+        answer(&rt, length)?;
     }
     Ok(())
 }

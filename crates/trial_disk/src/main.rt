@@ -4,8 +4,8 @@
 
 use std::rt::Files;
 use std::{fs, io};
-use store::Pool;
-use trial_support::{next, write, write_number, write_word};
+use store::{Pool, StoreMut};
+use trial_support::{START, checksum};
 
 // The bytes of the largest file, and one more.
 const BYTES: usize = 82_429;
@@ -13,37 +13,21 @@ const BYTES: usize = 82_429;
 // The places of a store of three assets, and some more.
 const PLACES: usize = 15;
 
-fn with_byte(sum: u64, byte: u8) -> u64 {
-    next(sum ^ byte as u64)
-}
-
-// A word that depends on every byte and on its place.
-fn checksum(bytes: &[u8]) -> u64 {
-    let mut sum: u64 = 0x9e37_79b9_7f4a_7c15;
-    for i in 0..bytes.len() {
-        sum = with_byte(sum, bytes[i]);
-    }
-    sum
-}
-
 fn show_file(rt: &(impl Files + Print), path: &str) -> io::Result<()> {
     let Ok(mut file) = fs::open(rt, path) else {
-        return write(rt, b"no file\n");
+        return println!(rt; "no file");
     };
     let mut bytes = [0u8; BYTES];
     let count = reading::read_full(&mut file, &mut bytes)?;
-    write(rt, b"file of ")?;
-    write_number(rt, count as u64)?;
-    write(rt, b" bytes ")?;
-    write_word(rt, checksum(&bytes[..count]))?;
-    write(rt, b"\n")
+    println!(rt;
+        "file of {count} bytes {:016x}",
+        checksum(START, &bytes[..count])
+    )
 }
 
 // Answers the file of an input. One that cannot be opened has nothing in it.
 fn answer(rt: &(impl Files + Print), input: &str, path: &[u8]) -> io::Result<()> {
-    write(rt, b"input ")?;
-    write(rt, input.as_bytes())?;
-    write(rt, b"\n")?;
+    println!(rt; "input {input}")?;
     match fs::open(rt, input) {
         Ok(mut file) => disk_console::answer_from(rt, &mut file, path),
         Err(_) => disk_console::answer_from(rt, &mut io::empty(), path),
@@ -58,23 +42,28 @@ fn store(rt: &(impl Files + Print), input: &str) -> io::Result<()> {
 // Longer and shorter files over each other, and inputs that leave the file as it is.
 fn stores(rt: &(impl Files + Print)) -> io::Result<()> {
     show_file(rt, "store")?;
-    store(rt, "1")?;
-    store(rt, "3")?;
-    store(rt, "20")?;
-    store(rt, "64")?;
-    store(rt, "100")?;
-    store(rt, "no_line")?;
-    store(rt, "two_lines")?;
-    store(rt, "no_such_input")?;
-    store(rt, "0")?;
-    store(rt, "101")?;
-    store(rt, "p_10001")?;
-    store(rt, "rho_10001")?;
-    store(rt, "64")?;
-    store(rt, "certain")?;
-    store(rt, "20")?;
-    store(rt, "3")?;
-    store(rt, "1")
+    for input in [
+        "1",
+        "3",
+        "20",
+        "64",
+        "100",
+        "no_line",
+        "two_lines",
+        "no_such_input",
+        "0",
+        "101",
+        "p_10001",
+        "rho_10001",
+        "64",
+        "certain",
+        "20",
+        "3",
+        "1",
+    ] {
+        store(rt, input)?;
+    }
+    Ok(())
 }
 
 // A file that is there and longer, refused inputs for one that is not there, and paths of no file.
@@ -97,71 +86,62 @@ fn paths(rt: &(impl Files + Print)) -> io::Result<()> {
 }
 
 // Compares the store of three assets with a file.
-fn compare(rt: &(impl Files + Print), path: &[u8]) -> io::Result<()> {
-    write(rt, b"compare ")?;
-    write(rt, path)?;
-    write(rt, b"\n")?;
+fn compare(rt: &(impl Files + Print), path: &str) -> io::Result<()> {
+    println!(rt; "compare {path}")?;
     let mut low_significands = [0u32; PLACES];
     let mut high_significands = [0u32; PLACES];
     let mut low_exponents = [0i32; PLACES];
     let mut high_exponents = [0i32; PLACES];
+    let mut store = StoreMut {
+        low_significands: &mut low_significands,
+        high_significands: &mut high_significands,
+        low_exponents: &mut low_exponents,
+        high_exponents: &mut high_exponents,
+    };
     let pool = Pool {
         assets: 3,
         probability: 1000,
         correlation: 3000,
     };
-    let filled = store::fill(
-        pool,
-        pool,
-        &mut low_significands,
-        &mut high_significands,
-        &mut low_exponents,
-        &mut high_exponents,
-    );
-    disk_console::compare_with_file(
-        rt,
-        path,
-        filled.head,
-        &low_significands,
-        &high_significands,
-        &low_exponents,
-        &high_exponents,
-    )
+    let filled = store::fill(pool, pool, &mut store);
+    disk_console::compare_with_file(rt, path.as_bytes(), filled.head, &store.shared())
 }
 
-// Files that can be read, of the same store and of others.
-fn read_files(rt: &(impl Files + Print)) -> io::Result<()> {
-    compare(rt, b"same")?;
-    compare(rt, b"other_probability")?;
-    compare(rt, b"other_correlation")?;
-    compare(rt, b"other_pool")?;
-    compare(rt, b"fewer_assets")?;
-    compare(rt, b"more_assets")?;
-    compare(rt, b"first_low_significand")?;
-    compare(rt, b"first_low_exponent")?;
-    compare(rt, b"first_high_significand")?;
-    compare(rt, b"first_high_exponent")?;
-    compare(rt, b"last_low_significand")?;
-    compare(rt, b"last_low_exponent")?;
-    compare(rt, b"last_high_significand")?;
-    compare(rt, b"last_high_exponent")
-}
-
-// Files that are refused, or cannot be read.
-fn other_files(rt: &(impl Files + Print)) -> io::Result<()> {
-    compare(rt, b"empty")?;
-    compare(rt, b"eleven_bytes")?;
-    compare(rt, b"head_alone")?;
-    compare(rt, b"one_byte_less")?;
-    compare(rt, b"one_byte_more")?;
-    compare(rt, b"longer_than_largest")?;
-    compare(rt, b"no_assets")?;
-    compare(rt, b"too_many_assets")?;
-    compare(rt, b"high_probability")?;
-    compare(rt, b"high_correlation")?;
-    compare(rt, b"no_kept_number")?;
-    compare(rt, b"no_such_file")?;
-    compare(rt, b".")
+fn files(rt: &(impl Files + Print)) -> io::Result<()> {
+    for path in [
+        // Files that can be read, of the same store and of others.
+        "same",
+        "other_probability",
+        "other_correlation",
+        "other_pool",
+        "fewer_assets",
+        "more_assets",
+        "first_low_significand",
+        "first_low_exponent",
+        "first_high_significand",
+        "first_high_exponent",
+        "last_low_significand",
+        "last_low_exponent",
+        "last_high_significand",
+        "last_high_exponent",
+        // Files that are refused, or cannot be read.
+        "empty",
+        "eleven_bytes",
+        "head_alone",
+        "one_byte_less",
+        "one_byte_more",
+        "longer_than_largest",
+        "no_assets",
+        "too_many_assets",
+        "high_probability",
+        "high_correlation",
+        "no_kept_number",
+        "no_such_file",
+        ".",
+    ] {
+        compare(rt, path)?;
+    }
+    Ok(())
 }
 
 // The program is given no path here.
@@ -169,6 +149,5 @@ fn main(rt: HostRuntime) -> io::Result<()> {
     disk_console::answer(&rt)?;
     stores(&rt)?;
     paths(&rt)?;
-    read_files(&rt)?;
-    other_files(&rt)
+    files(&rt)
 }

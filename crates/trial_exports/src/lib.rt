@@ -2,10 +2,10 @@
 // array, and a number that is written, by a pointer.
 #![tactic(auto)]
 
-use column_check::Verdict;
 use desk::Request;
 use kept::Kept;
-use pool::{Answer, Filled, Loss, Pool, TRANCHES, Tranche};
+use pool::{Answer, Filled, Loss, Pool, Refusal, Store, StoreMut, TRANCHES, Tranche};
+use trial_support::refusal_number;
 
 // Three numbers for each tranche: recovery, lower and upper attachment.
 const RECORDS: usize = 24;
@@ -15,14 +15,6 @@ const ROWS: usize = 101;
 
 // The numbers of a head: assets, probability and correlation.
 const HEAD: usize = 3;
-
-// A loss of an answer: a kind, 0 untouched, 1 faint, 2 shown, and up to two numbers. Where there is none, it is 0.
-#[derive(Clone, Copy)]
-struct Numbers {
-    kind: u32,
-    first: f64,
-    second: f64,
-}
 
 fn pool_of(assets: u32, probability: u32, correlation: u32) -> Pool {
     Pool {
@@ -38,55 +30,38 @@ fn head_of(head: &[u32; HEAD]) -> Pool {
 
 // Writes the head that a call handed back.
 fn write_head(handed: Pool, head: &mut [u32; HEAD]) {
-    head[0] = handed.assets;
-    head[1] = handed.probability;
-    head[2] = handed.correlation;
+    *head = [handed.assets, handed.probability, handed.correlation];
 }
 
 // Writes the head, and gives the number of the refusal, or 0.
-fn write_filled(filled: Filled, head: &mut [u32; HEAD]) -> u32 {
+fn write_filled(filled: Filled<Result<(), Refusal>>, head: &mut [u32; HEAD]) -> u32 {
     write_head(filled.head, head);
-    filled.refusal
-}
-
-fn tranche_of(recovery: u32, lower: u32, upper: u32) -> Tranche {
-    Tranche {
-        recovery,
-        lower,
-        upper,
-    }
+    refusal_number(filled.answer)
 }
 
 fn tranches_of(records: &[u32; RECORDS]) -> [Tranche; TRANCHES] {
-    [
-        tranche_of(records[0], records[1], records[2]),
-        tranche_of(records[3], records[4], records[5]),
-        tranche_of(records[6], records[7], records[8]),
-        tranche_of(records[9], records[10], records[11]),
-        tranche_of(records[12], records[13], records[14]),
-        tranche_of(records[15], records[16], records[17]),
-        tranche_of(records[18], records[19], records[20]),
-        tranche_of(records[21], records[22], records[23]),
-    ]
+    let mut tranches = [Tranche {
+        recovery: 0,
+        lower: 0,
+        upper: 0,
+    }; TRANCHES];
+    let (records, _) = records.as_chunks::<3>();
+    for (tranche, [recovery, lower, upper]) in tranches.iter_mut().zip(records) {
+        *tranche = Tranche {
+            recovery: *recovery,
+            lower: *lower,
+            upper: *upper,
+        };
+    }
+    tranches
 }
 
-fn numbers_of(loss: Loss) -> Numbers {
+// A kind, 0 untouched, 1 faint, 2 shown, and up to two numbers. Where there is none, it is 0.
+fn numbers_of(loss: Loss) -> (u32, f64, f64) {
     match loss {
-        Loss::Untouched => Numbers {
-            kind: 0,
-            first: 0.0,
-            second: 0.0,
-        },
-        Loss::Faint(x) => Numbers {
-            kind: 1,
-            first: x,
-            second: 0.0,
-        },
-        Loss::Shown(bounds) => Numbers {
-            kind: 2,
-            first: bounds.low,
-            second: bounds.high,
-        },
+        Loss::Untouched => (0, 0.0, 0.0),
+        Loss::Faint(x) => (1, x, 0.0),
+        Loss::Shown(bounds) => (2, bounds.low, bounds.high),
     }
 }
 
@@ -97,16 +72,11 @@ fn write_answer(
     firsts: &mut [f64; TRANCHES],
     seconds: &mut [f64; TRANCHES],
 ) -> u32 {
-    let losses = answer.losses;
-    for i in 0..TRANCHES {
-        let place = losses[i];
-        let loss = place.loss;
-        let numbers = numbers_of(loss);
-        kinds[i] = numbers.kind;
-        firsts[i] = numbers.first;
-        seconds[i] = numbers.second;
-    }
-    answer.refusal
+    let numbers = answer.losses.map(|loss| numbers_of(loss));
+    *kinds = numbers.map(|numbers| numbers.0);
+    *firsts = numbers.map(|numbers| numbers.1);
+    *seconds = numbers.map(|numbers| numbers.2);
+    refusal_number(answer.outcome)
 }
 
 #[unsafe(no_mangle)]
@@ -120,38 +90,36 @@ pub extern "C" fn trial_fill(
     low_exponents: &mut [i32],
     high_exponents: &mut [i32],
 ) -> u32 {
-    let filled = pool::fill(
-        pool_of(assets, probability, correlation),
-        head_of(head),
+    let mut store = StoreMut {
         low_significands,
         high_significands,
         low_exponents,
         high_exponents,
+    };
+    let filled = pool::fill(
+        pool_of(assets, probability, correlation),
+        head_of(head),
+        &mut store,
     );
     write_filled(filled, head)
 }
 
-fn put(copy: &mut [u32; ROWS], i: usize, x: u32) {
-    if i < ROWS {
-        copy[i] = x;
-    }
-}
-
-// Copies the row, and gives its length.
-#[unsafe(no_mangle)]
-pub extern "C" fn trial_row(n: u32, k: u32, significands: &[u32], copy: &mut [u32; ROWS]) -> usize {
-    let part = pool::row(n, k, significands);
-    let mut i = 0;
-    while i < part.len() {
-        put(copy, i, part[i]);
-        i += 1;
+// Copies what there is, and gives its length.
+fn copy_of<T: Copy>(part: &[T], copy: &mut [T]) -> usize {
+    for (place, x) in copy.iter_mut().zip(part) {
+        *place = *x;
     }
     part.len()
 }
 
 #[unsafe(no_mangle)]
+pub extern "C" fn trial_row(n: u32, k: u32, significands: &[u32], copy: &mut [u32; ROWS]) -> usize {
+    copy_of(pool::row(n, k, significands), copy)
+}
+
+#[unsafe(no_mangle)]
 pub extern "C" fn trial_row_refusal(n: u32, k: u32, significands: &[u32]) -> u32 {
-    pool::row_refusal(n, k, significands)
+    refusal_number(pool::row_refusal(n, k, significands))
 }
 
 #[unsafe(no_mangle)]
@@ -166,15 +134,14 @@ pub extern "C" fn trial_column(
     high_exponents: &mut [i32],
     units: &mut [u32],
 ) -> u32 {
-    let filled = pool::column(
-        pool_of(assets, probability, correlation),
-        head_of(head),
+    let mut store = StoreMut {
         low_significands,
         high_significands,
         low_exponents,
         high_exponents,
-        units,
-    );
+    };
+    let pool = pool_of(assets, probability, correlation);
+    let filled = pool::column(pool, head_of(head), &mut store, units);
     write_filled(filled, head)
 }
 
@@ -190,15 +157,14 @@ pub extern "C" fn trial_screen_column(
     high_exponents: &mut [i32],
     units: &mut [u32],
 ) -> u32 {
-    let filled = screen::column(
-        pool_of(assets, probability, correlation),
-        head_of(head),
+    let mut store = StoreMut {
         low_significands,
         high_significands,
         low_exponents,
         high_exponents,
-        units,
-    );
+    };
+    let pool = pool_of(assets, probability, correlation);
+    let filled = screen::column(pool, head_of(head), &mut store, units);
     write_filled(filled, head)
 }
 
@@ -214,15 +180,14 @@ pub extern "C" fn trial_shift_list(
     high_exponents: &mut [i32],
     shifts: &mut [i32],
 ) -> u32 {
-    let filled = shift::shift_list(
-        pool_of(assets, probability, correlation),
-        head_of(head),
+    let mut store = StoreMut {
         low_significands,
         high_significands,
         low_exponents,
         high_exponents,
-        shifts,
-    );
+    };
+    let pool = pool_of(assets, probability, correlation);
+    let filled = shift::shift_list(pool, head_of(head), &mut store, shifts);
     write_filled(filled, head)
 }
 
@@ -233,7 +198,7 @@ pub extern "C" fn trial_beta_column(
     correlation: u32,
     units: &mut [u32],
 ) -> u32 {
-    beta_binomial::column(pool_of(assets, probability, correlation), units)
+    refusal_number(beta_binomial::column(pool_of(assets, probability, correlation), units))
 }
 
 #[unsafe(no_mangle)]
@@ -252,16 +217,15 @@ pub extern "C" fn trial_losses(
     firsts: &mut [f64; TRANCHES],
     seconds: &mut [f64; TRANCHES],
 ) -> u32 {
-    let filled = pool::tranche_losses(
-        pool_of(assets, probability, correlation),
-        head_of(head),
-        tranches_of(records),
-        count,
+    let mut store = StoreMut {
         low_significands,
         high_significands,
         low_exponents,
         high_exponents,
-    );
+    };
+    let pool = pool_of(assets, probability, correlation);
+    let tranches = tranches_of(records);
+    let filled = pool::tranche_losses(pool, head_of(head), tranches, count, &mut store);
     write_head(filled.head, head);
     write_answer(filled.answer, kinds, firsts, seconds)
 }
@@ -282,16 +246,15 @@ pub extern "C" fn trial_screen_losses(
     firsts: &mut [f64; TRANCHES],
     seconds: &mut [f64; TRANCHES],
 ) -> u32 {
-    let filled = screen::tranche_losses(
-        pool_of(assets, probability, correlation),
-        head_of(head),
-        tranches_of(records),
-        count,
+    let mut store = StoreMut {
         low_significands,
         high_significands,
         low_exponents,
         high_exponents,
-    );
+    };
+    let pool = pool_of(assets, probability, correlation);
+    let tranches = tranches_of(records);
+    let filled = screen::tranche_losses(pool, head_of(head), tranches, count, &mut store);
     write_head(filled.head, head);
     write_answer(filled.answer, kinds, firsts, seconds)
 }
@@ -329,44 +292,23 @@ pub extern "C" fn trial_layer_loss(
     first: &mut f64,
     second: &mut f64,
 ) -> u32 {
-    let filled = pool::layer_loss(
-        pool_of(assets, probability, correlation),
-        head_of(head),
-        i,
-        j,
+    let mut store = StoreMut {
         low_significands,
         high_significands,
         low_exponents,
         high_exponents,
-    );
+    };
+    let pool = pool_of(assets, probability, correlation);
+    let filled = pool::layer_loss(pool, head_of(head), i, j, &mut store);
     write_head(filled.head, head);
-    let answer = filled.answer;
-    let loss = answer.loss;
-    let numbers = numbers_of(loss);
-    *kind = numbers.kind;
-    *first = numbers.first;
-    *second = numbers.second;
-    answer.refusal
+    let numbers = numbers_of(filled.answer.unwrap_or(Loss::Untouched));
+    *kind = numbers.0;
+    *first = numbers.1;
+    *second = numbers.2;
+    refusal_number(filled.answer)
 }
 
 // Writes the number of the refusal or of the row, or 0, and gives a kind: 0 refused, 1 passed, 2 fails.
-fn write_verdict(verdict: Verdict, number: &mut u32) -> u32 {
-    match verdict {
-        Verdict::Refused(refusal) => {
-            *number = refusal;
-            0
-        }
-        Verdict::Passed => {
-            *number = 0;
-            1
-        }
-        Verdict::Fails(k) => {
-            *number = k;
-            2
-        }
-    }
-}
-
 #[unsafe(no_mangle)]
 pub extern "C" fn trial_check_column(
     assets: u32,
@@ -380,28 +322,28 @@ pub extern "C" fn trial_check_column(
     high_exponents: &mut [i32],
     number: &mut u32,
 ) -> u32 {
-    let filled = column_check::check_column(
-        pool_of(assets, probability, correlation),
-        head_of(head),
-        claims,
+    let mut store = StoreMut {
         low_significands,
         high_significands,
         low_exponents,
         high_exponents,
-    );
-    let verdict = filled.verdict;
+    };
+    let pool = pool_of(assets, probability, correlation);
+    let filled = column_check::check_column(pool, head_of(head), claims, &mut store);
     write_head(filled.head, head);
-    write_verdict(verdict, number)
+    let (kind, given) = match filled.answer {
+        Err(refusal) => (0, u32::from(refusal)),
+        Ok(None) => (1, 0),
+        Ok(Some(k)) => (2, k),
+    };
+    *number = given;
+    kind
 }
 
 // Writes the parts of a row's kept numbers.
 fn write_row(row: [Kept; ROWS], significands: &mut [u32; ROWS], exponents: &mut [i32; ROWS]) {
-    for i in 0..ROWS {
-        let entry = row[i];
-        let exponent = entry.exponent;
-        significands[i] = entry.significand;
-        exponents[i] = exponent;
-    }
+    *significands = row.map(|entry| entry.significand);
+    *exponents = row.map(|entry| entry.exponent);
 }
 
 // Writes the row on either side, and gives the number of the refusal, or 0.
@@ -423,24 +365,26 @@ pub extern "C" fn trial_read(
     low_row_exponents: &mut [i32; ROWS],
     high_row_exponents: &mut [i32; ROWS],
 ) -> u32 {
-    let answer = desk::read(
-        pool_of(assets, probability, correlation),
-        Request {
-            probability: expected_probability,
-            correlation: expected_correlation,
-            row,
-        },
-        ceiling,
+    let store = Store {
         low_significands,
         high_significands,
         low_exponents,
         high_exponents,
+    };
+    let request = Request {
+        probability: expected_probability,
+        correlation: expected_correlation,
+        row,
+    };
+    let answer = desk::read(
+        pool_of(assets, probability, correlation),
+        request,
+        ceiling,
+        &store,
     );
-    let low = answer.low;
-    let high = answer.high;
-    write_row(low, low_row_significands, low_row_exponents);
-    write_row(high, high_row_significands, high_row_exponents);
-    answer.refusal
+    write_row(answer.low, low_row_significands, low_row_exponents);
+    write_row(answer.high, high_row_significands, high_row_exponents);
+    refusal_number(answer.outcome)
 }
 
 #[unsafe(no_mangle)]
@@ -454,14 +398,14 @@ pub extern "C" fn trial_write_file(
     high_exponents: &[i32],
     file: &mut [u8],
 ) -> u32 {
-    store_file::write(
-        pool_of(assets, probability, correlation),
+    let store = Store {
         low_significands,
         high_significands,
         low_exponents,
         high_exponents,
-        file,
-    )
+    };
+    let head = pool_of(assets, probability, correlation);
+    refusal_number(store_file::write(head, &store, file))
 }
 
 #[unsafe(no_mangle)]
@@ -473,14 +417,13 @@ pub extern "C" fn trial_read_file(
     low_exponents: &mut [i32],
     high_exponents: &mut [i32],
 ) -> u32 {
-    let filled = store_file::read(
-        head_of(head),
-        file,
+    let mut store = StoreMut {
         low_significands,
         high_significands,
         low_exponents,
         high_exponents,
-    );
+    };
+    let filled = store_file::read(head_of(head), file, &mut store);
     write_filled(filled, head)
 }
 
@@ -488,7 +431,5 @@ pub extern "C" fn trial_read_file(
 #[unsafe(no_mangle)]
 pub extern "C" fn trial_reply(start: &[u8; 64], count: usize, text: &mut [u8; 1_125]) -> usize {
     let reply = reply::reply_to_start(*start, count);
-    let bytes = reply.text;
-    *text = bytes;
-    reply.length
+    copy_of(&reply, text)
 }

@@ -1,130 +1,58 @@
 // The two calls, on the first places of the arrays and of the buffer.
-use super::file_buffer::{BUFFER, first_bytes, lent_bytes, write_buffer};
-use pool::{Filled, Pool};
+use super::file_buffer::{BUFFER, write_buffer};
+use grounds::Lengths;
+use pool::Pool;
 use std::io;
 use trial_inputs::given::{read_length, read_lengths};
-use trial_lines::{
-    Call, LARGE_PLACES, Lengths, write_head, write_length, write_pool, write_refusal, write_store,
-    write_store_lengths,
-};
-use trial_stores::{first_integers, first_naturals, read_head};
-use trial_support::write;
+use trial_lines::shown::Shown;
+use trial_lines::{Call, whole, write_head, write_outcome, write_store};
+use trial_pool::arrays::Arrays;
+use trial_stores::read_head;
+use trial_support::{first, first_mut};
 
 fn write_given(
     rt: &impl Print,
-    name: &[u8],
+    name: &str,
     head: Pool,
     lengths: Lengths,
     bytes: usize,
 ) -> io::Result<()> {
-    write(rt, name)?;
-    write_pool(rt, head)?;
-    write_store_lengths(rt, lengths)?;
-    write(rt, b" bytes")?;
-    write_length(rt, bytes)
-}
-
-fn write_on(
-    head: Pool,
-    lengths: Lengths,
-    bytes: usize,
-    low_significands: &[u32],
-    high_significands: &[u32],
-    low_exponents: &[i32],
-    high_exponents: &[i32],
-    buffer: &mut [u8],
-) -> u32 {
-    store_file::write(
-        head,
-        first_naturals(low_significands, lengths.0),
-        first_naturals(high_significands, lengths.1),
-        first_integers(low_exponents, lengths.2),
-        first_integers(high_exponents, lengths.3),
-        lent_bytes(buffer, bytes),
+    print!(rt;
+        "{name} {} lengths {} bytes {bytes}",
+        Shown(head),
+        Shown(lengths)
     )
 }
 
 pub(crate) fn run_write(
     rt: &(impl Input + Print),
     held: Pool,
-    low_significands: &[u32],
-    high_significands: &[u32],
-    low_exponents: &[i32],
-    high_exponents: &[i32],
+    arrays: &Arrays,
     buffer: &mut [u8; BUFFER],
 ) -> io::Result<()> {
     let head = read_head(rt, held)?;
     let lengths = read_lengths(rt)?;
     let bytes = read_length(rt)?;
-    write_given(rt, b"write", head, lengths, bytes)?;
-    let refusal = write_on(
-        head,
-        lengths,
-        bytes,
-        low_significands,
-        high_significands,
-        low_exponents,
-        high_exponents,
-        buffer,
-    );
-    write_refusal(rt, refusal)?;
-    write_buffer(rt, refusal, bytes, buffer)
-}
-
-fn read_on(
-    head: Pool,
-    lengths: Lengths,
-    bytes: usize,
-    low_significands: &mut [u32],
-    high_significands: &mut [u32],
-    low_exponents: &mut [i32],
-    high_exponents: &mut [i32],
-    buffer: &[u8],
-) -> Filled {
-    store_file::read(
-        head,
-        first_bytes(buffer, bytes),
-        trial_pool::first_naturals(low_significands, lengths.0),
-        trial_pool::first_naturals(high_significands, lengths.1),
-        trial_pool::first_integers(low_exponents, lengths.2),
-        trial_pool::first_integers(high_exponents, lengths.3),
-    )
+    write_given(rt, "write", head, lengths, bytes)?;
+    let outcome = store_file::write(head, &arrays.lent(lengths), first_mut(buffer, bytes));
+    write_outcome(rt, outcome)?;
+    write_buffer(rt, outcome.is_ok(), bytes, buffer)
 }
 
 // Gives the head that the call hands back.
 pub(crate) fn run_read(
     rt: &(impl Input + Print),
     held: Pool,
-    low_significands: &mut [u32; LARGE_PLACES],
-    high_significands: &mut [u32; LARGE_PLACES],
-    low_exponents: &mut [i32; LARGE_PLACES],
-    high_exponents: &mut [i32; LARGE_PLACES],
-    buffer: &[u8],
+    arrays: &mut Arrays,
+    buffer: &[u8; BUFFER],
 ) -> io::Result<Pool> {
     let head = read_head(rt, held)?;
     let lengths = read_lengths(rt)?;
     let bytes = read_length(rt)?;
-    write_given(rt, b"read file", head, lengths, bytes)?;
-    let filled = read_on(
-        head,
-        lengths,
-        bytes,
-        low_significands,
-        high_significands,
-        low_exponents,
-        high_exponents,
-        buffer,
-    );
-    write_refusal(rt, filled.refusal)?;
+    write_given(rt, "read file", head, lengths, bytes)?;
+    let filled = store_file::read(head, first(buffer, bytes), &mut arrays.lent_mut(lengths));
+    write_outcome(rt, filled.answer)?;
     write_head(rt, filled.head)?;
-    write_store(
-        rt,
-        Call::Fill,
-        lengths,
-        low_significands,
-        high_significands,
-        low_exponents,
-        high_exponents,
-    )?;
+    write_store(rt, Call::Fill, lengths, &arrays.lent(whole()))?;
     Ok(filled.head)
 }

@@ -25,124 +25,37 @@ use file_buffer::{BUFFER, run_bytes, run_put};
 use pool::Pool;
 use std::io;
 use std::rt::Files;
-use trial_lines::{LARGE_PLACES, pool_of};
+use trial_lines::pool_of;
+use trial_pool::arrays::Arrays;
 use trial_stores::run_step;
 use trial_support::read_number;
 
-// A step of the buffer alone.
-fn run_buffer_step(
+// Gives the head of the store after the step.
+fn run_next(
     rt: &(impl Files + Input + Print + Alloc),
-    kind: u32,
-    buffer: &mut [u8; BUFFER],
-) -> io::Result<()> {
-    if kind == 3 {
-        run_bytes(rt, buffer)
-    } else if kind == 4 {
-        run_put(rt, buffer)
-    } else if kind == 8 {
-        run_compare(rt, buffer)
-    } else {
-        run_load(rt, buffer)
-    }
-}
-
-// A step of the store and the buffer. Gives the head of the store after it.
-fn run_file_step(
-    rt: &(impl Files + Input + Print + Alloc),
-    kind: u32,
     head: Pool,
-    low_significands: &mut [u32; LARGE_PLACES],
-    high_significands: &mut [u32; LARGE_PLACES],
-    low_exponents: &mut [i32; LARGE_PLACES],
-    high_exponents: &mut [i32; LARGE_PLACES],
+    arrays: &mut Arrays,
     buffer: &mut [u8; BUFFER],
 ) -> io::Result<Pool> {
-    if kind == 7 {
-        return run_read(
-            rt,
-            head,
-            low_significands,
-            high_significands,
-            low_exponents,
-            high_exponents,
-            buffer,
-        );
-    }
-    if kind == 6 {
-        run_write(
-            rt,
-            head,
-            low_significands,
-            high_significands,
-            low_exponents,
-            high_exponents,
-            buffer,
-        )?;
-    } else if kind == 5 {
-        run_entry(
-            rt,
-            low_significands,
-            high_significands,
-            low_exponents,
-            high_exponents,
-        )?;
-    } else {
-        run_buffer_step(rt, kind, buffer)?;
+    match read_number(rt)? {
+        3 => run_bytes(rt, buffer)?,
+        4 => run_put(rt, buffer)?,
+        5 => run_entry(rt, arrays)?,
+        6 => run_write(rt, head, arrays, buffer)?,
+        7 => return run_read(rt, head, arrays, buffer),
+        8 => run_compare(rt, buffer)?,
+        9 => run_load(rt, buffer)?,
+        kind => return run_step(rt, kind, head, arrays),
     }
     Ok(head)
 }
 
-fn run_next(
-    rt: &(impl Files + Input + Print + Alloc),
-    head: Pool,
-    low_significands: &mut [u32; LARGE_PLACES],
-    high_significands: &mut [u32; LARGE_PLACES],
-    low_exponents: &mut [i32; LARGE_PLACES],
-    high_exponents: &mut [i32; LARGE_PLACES],
-    buffer: &mut [u8; BUFFER],
-) -> io::Result<Pool> {
-    let kind = read_number(rt)?;
-    if kind < 3 {
-        return run_step(
-            rt,
-            kind,
-            head,
-            low_significands,
-            high_significands,
-            low_exponents,
-            high_exponents,
-        );
-    }
-    run_file_step(
-        rt,
-        kind,
-        head,
-        low_significands,
-        high_significands,
-        low_exponents,
-        high_exponents,
-        buffer,
-    )
-}
-
 fn main(rt: HostRuntime) -> io::Result<()> {
-    let mut low_significands = [0u32; LARGE_PLACES];
-    let mut high_significands = [0u32; LARGE_PLACES];
-    let mut low_exponents = [0i32; LARGE_PLACES];
-    let mut high_exponents = [0i32; LARGE_PLACES];
+    let mut arrays = Arrays::filled_with(0, 0);
     let mut buffer = [0u8; BUFFER];
     let mut head = pool_of(0, 0, 0);
-    let steps = read_number(&rt)?;
-    for _ in 0..steps {
-        head = run_next(
-            &rt,
-            head,
-            &mut low_significands,
-            &mut high_significands,
-            &mut low_exponents,
-            &mut high_exponents,
-            &mut buffer,
-        )?;
+    for _ in 0..read_number(&rt)? {
+        head = run_next(&rt, head, &mut arrays, &mut buffer)?;
     }
     Ok(())
 }

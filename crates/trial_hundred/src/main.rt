@@ -6,15 +6,15 @@
 
 ghost use Rattle.std.specs.Prelude.{◌≤◌};
 
-use pool::Pool;
+use pool::{Pool, TRANCHES, Tranche};
 use std::io;
 use trial_inputs::edges::{
-    List, corners, exact_lengths, list_lengths, longer_lengths, over_others, rows_of,
+    corners, exact_lengths, list_lengths, longer_lengths, over_others, rows_of,
 };
-use trial_inputs::random::{Calls, random_cases};
-use trial_lines::tranches::{Records, Tranches, refused_tranche, repeated, spread, tranche_of};
-use trial_lines::{Call, LARGE_ROWS, Lengths, Library, pool_of};
-use trial_pool::{filled_rows, row, run, run_ample, run_over, whole};
+use trial_inputs::random::{large_case, random_cases};
+use trial_lines::tranches::{REFUSED, Tranches, spread, tranche_of};
+use trial_lines::{Call, LARGE_ROWS, Library, alike, pool_of, whole};
+use trial_pool::{filled_rows, row, run, run_ample, run_each, run_over};
 
 fn pool(assets: u32) -> Pool {
     pool_of(assets, 1_000, 3_000)
@@ -28,21 +28,23 @@ fn loss(library: Library) -> Call {
     Call::Loss(library, tranche_of(4_000, 1_000, 3_000))
 }
 
-fn losses(library: Library, count: u32, records: Records) -> Call {
+fn losses(library: Library, count: u32, records: [Tranche; TRANCHES]) -> Call {
     Call::Losses(library, Tranches { count, records })
-}
-
-fn none() -> Lengths {
-    Lengths(0, 0, 0, 0)
 }
 
 // ---- pools
 
 fn between(rt: &impl Print, call: Call, assets: u32) -> io::Result<()> {
-    run_ample(rt, call, pool(assets))?;
-    run_ample(rt, call, pool_of(assets, 5_000, 0))?;
-    run_ample(rt, call, pool_of(assets, 5_000, 5_000))?;
-    run_ample(rt, call, pool_of(assets, 2, 9_998))
+    run_each(
+        rt,
+        call,
+        &[
+            (assets, 1_000, 3_000),
+            (assets, 5_000, 0),
+            (assets, 5_000, 5_000),
+            (assets, 2, 9_998),
+        ],
+    )
 }
 
 fn pools_by(rt: &impl Print, library: Library, assets: u32) -> io::Result<()> {
@@ -64,19 +66,18 @@ fn all_pools(rt: &impl Print, assets: u32) -> io::Result<()> {
 fn order(rt: &impl Print, call: Call) -> io::Result<()> {
     run(rt, call, pool(101), whole())?;
     run(rt, call, pool(0xffff_ffff), whole())?;
-    run(rt, call, pool_of(101, 10_001, 10_001), none())?;
-    run(rt, call, pool_of(100, 10_001, 10_001), none())?;
-    run(rt, call, pool_of(100, 1_000, 10_001), none())?;
-    run(rt, call, pool_of(100, 1_000, 10_000), none())?;
-    run(rt, call, pool(100), none())?;
+    run(rt, call, pool_of(101, 10_001, 10_001), alike(0))?;
+    run(rt, call, pool_of(100, 10_001, 10_001), alike(0))?;
+    run(rt, call, pool_of(100, 1_000, 10_001), alike(0))?;
+    run(rt, call, pool_of(100, 1_000, 10_000), alike(0))?;
+    run(rt, call, pool(100), alike(0))?;
     run(rt, call, pool(100), whole())
 }
 
 fn order_by(rt: &impl Print, library: Library) -> io::Result<()> {
-    let refused = repeated(refused_tranche());
     order(rt, Call::Column(library, 100))?;
-    order(rt, Call::Loss(library, refused_tranche()))?;
-    order(rt, losses(library, 0, refused))?;
+    order(rt, Call::Loss(library, REFUSED))?;
+    order(rt, losses(library, 0, [REFUSED; TRANCHES]))?;
     order(rt, losses(library, 9, spread()))?;
     order(rt, losses(library, 8, spread()))
 }
@@ -120,7 +121,7 @@ fn lengths(rt: &impl Print, assets: u32, exact: usize, short: usize, rows: usize
     let eight = losses(Library::Pool, 8, spread());
     store_lengths(rt, Call::Fill, pool(assets), exact, short)?;
     store_lengths(rt, eight, pool(assets), exact, short)?;
-    list_lengths(rt, List::Column(Library::Pool), assets, exact, short, rows)?;
+    list_lengths(rt, column(Library::Pool), assets, exact, short, rows)?;
     beta_lengths(rt, pool(assets), rows)?;
     rows_of(rt, assets, exact, short)
 }
@@ -133,14 +134,19 @@ fn row_of(rt: &impl Print, assets: u32, k: u32) -> io::Result<()> {
 }
 
 fn smaller_stores(rt: &impl Print) -> io::Result<()> {
-    row_of(rt, 1, 1)?;
-    row_of(rt, 64, 0)?;
-    row_of(rt, 64, 64)?;
-    row_of(rt, 64, 65)?;
-    row_of(rt, 65, 65)?;
-    row_of(rt, 99, 99)?;
-    row_of(rt, 99, 100)?;
-    row_of(rt, 101, 0)
+    for (assets, k) in [
+        (1, 1),
+        (64, 0),
+        (64, 64),
+        (64, 65),
+        (65, 65),
+        (99, 99),
+        (99, 100),
+        (101, 0),
+    ] {
+        row_of(rt, assets, k)?;
+    }
+    Ok(())
 }
 
 // Over what pools of 100 assets left.
@@ -173,9 +179,9 @@ fn digit(
     probability: u32,
     correlation: u32,
 ) -> io::Result<()> {
-    let pool = pool_of(assets, probability, correlation);
-    run_ample(rt, column(library), pool)?;
-    run_ample(rt, loss(library), pool)
+    let pool = [(assets, probability, correlation)];
+    run_each(rt, column(library), &pool)?;
+    run_each(rt, loss(library), &pool)
 }
 
 fn digits(rt: &impl Print) -> io::Result<()> {
@@ -192,8 +198,8 @@ fn digits(rt: &impl Print) -> io::Result<()> {
 // ---- losses around 2^−800
 
 // For 65 assets: a few kept numbers above it, on both sides of it, and below it, twice each; far below it, and far above it.
-fn around_65() -> Records {
-    Records(
+fn around_65() -> [Tranche; TRANCHES] {
+    [
         tranche_of(6_633, 3_145, 9_824),
         tranche_of(8_755, 1_152, 8_546),
         tranche_of(8_499, 1_396, 7_096),
@@ -202,12 +208,12 @@ fn around_65() -> Records {
         tranche_of(7_779, 2_069, 8_984),
         tranche_of(0, 9_999, 10_000),
         tranche_of(0, 0, 10_000),
-    )
+    ]
 }
 
 // The same for 100 assets.
-fn around_100() -> Records {
-    Records(
+fn around_100() -> [Tranche; TRANCHES] {
+    [
         tranche_of(7_752, 1_482, 7_970),
         tranche_of(8_853, 755, 8_553),
         tranche_of(9_131, 572, 6_517),
@@ -216,23 +222,18 @@ fn around_100() -> Records {
         tranche_of(8_030, 1_299, 5_934),
         tranche_of(0, 9_999, 10_000),
         tranche_of(0, 0, 10_000),
-    )
+    ]
 }
 
 fn edges(rt: &impl Print) -> io::Result<()> {
-    run_ample(rt, losses(Library::Pool, 8, around_65()), pool_of(65, 1, 0))?;
-    run_ample(
-        rt,
-        losses(Library::Pool, 8, around_100()),
-        pool_of(100, 1, 0),
-    )
+    run_each(rt, losses(Library::Pool, 8, around_65()), &[(65, 1, 0)])?;
+    run_each(rt, losses(Library::Pool, 8, around_100()), &[(100, 1, 0)])
 }
 
 fn main(rt: HostRuntime) -> io::Result<()> {
-    all_pools(&rt, 64)?;
-    all_pools(&rt, 65)?;
-    all_pools(&rt, 99)?;
-    all_pools(&rt, 100)?;
+    for assets in [64, 65, 99, 100] {
+        all_pools(&rt, assets)?;
+    }
     refusals(&rt)?;
     lengths(&rt, 65, 2_211, 2_210, 66)?;
     lengths(&rt, 99, 5_050, 5_049, 100)?;
@@ -240,5 +241,5 @@ fn main(rt: HostRuntime) -> io::Result<()> {
     stores(&rt)?;
     digits(&rt)?;
     edges(&rt)?;
-    random_cases(&rt, 100, Calls::Large)
+    random_cases(100, |word| large_case(&rt, word))
 }

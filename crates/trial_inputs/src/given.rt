@@ -1,8 +1,9 @@
 // Inputs from standard input.
+use grounds::Lengths;
 use pool::{Pool, TRANCHES, Tranche};
 use std::io;
-use trial_lines::tranches::{Records, Tranches, refused_tranche, repeated, tranche_of, with};
-use trial_lines::{LARGE_ROWS, Lengths, Library, pool_of};
+use trial_lines::tranches::{REFUSED, Tranches, tranche_of};
+use trial_lines::{LARGE_ROWS, Library, pool_of};
 use trial_support::read_number;
 
 pub fn read_pool(rt: &impl Input) -> io::Result<Pool> {
@@ -17,38 +18,29 @@ pub fn read_length(rt: &impl Input) -> io::Result<usize> {
 }
 
 pub fn read_lengths(rt: &impl Input) -> io::Result<Lengths> {
-    let low_significands = read_length(rt)?;
-    let high_significands = read_length(rt)?;
-    let low_exponents = read_length(rt)?;
-    let high_exponents = read_length(rt)?;
-    Ok(Lengths(
-        low_significands,
-        high_significands,
-        low_exponents,
-        high_exponents,
-    ))
+    Ok(Lengths {
+        low_significands: read_length(rt)?,
+        high_significands: read_length(rt)?,
+        low_exponents: read_length(rt)?,
+        high_exponents: read_length(rt)?,
+    })
 }
 
 // So many claims, at most 106.
 pub fn read_claims(rt: &impl Input, count: usize) -> io::Result<[u32; LARGE_ROWS]> {
     let mut claims = [0u32; LARGE_ROWS];
-    for i in 0..LARGE_ROWS {
-        if i < count {
-            claims[i] = read_number(rt)?;
-        }
+    for claim in claims.iter_mut().take(count) {
+        *claim = read_number(rt)?;
     }
     Ok(claims)
 }
 
 pub fn read_library(rt: &impl Input) -> io::Result<Library> {
-    let number = read_number(rt)?;
-    if number == 0 {
-        return Ok(Library::Pool);
-    }
-    if number == 1 {
-        return Ok(Library::Screen);
-    }
-    Ok(Library::BetaBinomial)
+    Ok(match read_number(rt)? {
+        0 => Library::Pool,
+        1 => Library::Screen,
+        _ => Library::BetaBinomial,
+    })
 }
 
 fn read_tranche(rt: &impl Input) -> io::Result<Tranche> {
@@ -58,20 +50,12 @@ fn read_tranche(rt: &impl Input) -> io::Result<Tranche> {
     Ok(tranche_of(recovery, lower, upper))
 }
 
-// So many tranches, at most eight, and behind them records that would be refused.
-fn read_records(rt: &impl Input, count: u32) -> io::Result<Records> {
-    let mut records = repeated(refused_tranche());
-    for i in 0..TRANCHES {
-        if (i as u32) < count {
-            records = with(records, i, read_tranche(rt)?);
-        }
-    }
-    Ok(records)
-}
-
-// How many tranches there are, and the tranches.
+// How many tranches there are, and so many, at most eight. Behind them records that would be refused.
 pub fn read_tranches(rt: &impl Input) -> io::Result<Tranches> {
     let count = read_number(rt)?;
-    let records = read_records(rt, count)?;
+    let mut records = [REFUSED; TRANCHES];
+    for record in records.iter_mut().take(count as usize) {
+        *record = read_tranche(rt)?;
+    }
     Ok(Tranches { count, records })
 }

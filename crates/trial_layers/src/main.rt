@@ -8,10 +8,9 @@ ghost use Rattle.std.specs.Prelude.{◌≤◌};
 use pool::Pool;
 use std::io;
 use trial_inputs::edges::{exact_lengths, later_ends, longer_lengths, over_others};
-use trial_inputs::random::{Calls, random_cases};
-use trial_lines::tranches::tranche_of;
-use trial_lines::{Call, Lengths, Library, pool_of};
-use trial_pool::{run, run_ample, run_over};
+use trial_inputs::random::{layers_case, random_cases};
+use trial_lines::{Call, Library, alike, pool_of};
+use trial_pool::{run, run_ample, run_each, run_losses, run_over};
 
 const MOST: u32 = 0xffff_ffff;
 
@@ -27,11 +26,18 @@ fn layer(rt: &impl Print, pool: Pool, i: u32, j: u32) -> io::Result<()> {
 
 // Probability and correlation at their ends and between them.
 fn pools(rt: &impl Print, assets: u32, i: u32, j: u32) -> io::Result<()> {
-    layer(rt, pool(assets), i, j)?;
-    layer(rt, pool_of(assets, 1, 9_999), i, j)?;
-    layer(rt, pool_of(assets, 9_999, 1), i, j)?;
-    layer(rt, pool_of(assets, 0, 0), i, j)?;
-    later_ends(rt, Call::Layer(i, j), assets)
+    let call = Call::Layer(i, j);
+    run_each(
+        rt,
+        call,
+        &[
+            (assets, 1_000, 3_000),
+            (assets, 1, 9_999),
+            (assets, 9_999, 1),
+            (assets, 0, 0),
+        ],
+    )?;
+    later_ends(rt, call, assets)
 }
 
 // One default, the first, one between and the last; from the first on, up to the last, and all.
@@ -46,50 +52,45 @@ fn layers(rt: &impl Print, assets: u32, middle: u32) -> io::Result<()> {
 
 // ---- tranches
 
-// A layer, and the tranche that has the same attachments and no recovery.
-fn both(rt: &impl Print, pool: Pool, i: u32, j: u32, lower: u32, upper: u32) -> io::Result<()> {
-    layer(rt, pool, i, j)?;
-    run_ample(
-        rt,
-        Call::Loss(Library::Pool, tranche_of(0, lower, upper)),
-        pool,
-    )
+// A layer, and the tranche that has the same attachments and no recovery, of so many assets.
+fn beside(rt: &impl Print, assets: u32, layer: Call, lower: u32, upper: u32) -> io::Result<()> {
+    for pool in [(assets, 1_000, 3_000), (assets, 250, 500)] {
+        run_each(rt, layer, &[pool])?;
+        run_losses(rt, Library::Pool, &[(pool, (0, lower, upper))])?;
+    }
+    Ok(())
 }
 
-fn beside(rt: &impl Print, assets: u32, i: u32, j: u32, lower: u32, upper: u32) -> io::Result<()> {
-    both(rt, pool(assets), i, j, lower, upper)?;
-    both(rt, pool_of(assets, 250, 500), i, j, lower, upper)
-}
-
-// The number of assets divides 10,000.
-fn divisors(rt: &impl Print) -> io::Result<()> {
-    beside(rt, 1, 1, 1, 0, 10_000)?;
-    beside(rt, 2, 1, 1, 0, 5_000)?;
-    beside(rt, 2, 2, 2, 5_000, 10_000)?;
-    beside(rt, 4, 2, 3, 2_500, 7_500)?;
-    beside(rt, 5, 1, 5, 0, 10_000)?;
-    beside(rt, 5, 4, 4, 6_000, 8_000)?;
-    beside(rt, 8, 3, 7, 2_500, 8_750)?;
-    beside(rt, 10, 1, 3, 0, 3_000)?;
-    beside(rt, 10, 10, 10, 9_000, 10_000)?;
-    beside(rt, 16, 2, 15, 625, 9_375)?;
-    beside(rt, 20, 2, 15, 500, 7_500)?;
-    beside(rt, 20, 20, 20, 9_500, 10_000)?;
-    beside(rt, 25, 5, 5, 1_600, 2_000)?;
-    beside(rt, 40, 1, 39, 0, 9_750)?;
-    beside(rt, 50, 11, 50, 2_000, 10_000)?;
-    beside(rt, 80, 21, 60, 2_500, 7_500)?;
-    beside(rt, 100, 1, 1, 0, 100)?;
-    beside(rt, 100, 34, 67, 3_300, 6_700)?;
-    beside(rt, 100, 1, 100, 0, 10_000)
-}
-
-// Pools whose number of assets does not divide 10,000, with layers that have whole attachments all the same.
-fn others(rt: &impl Print) -> io::Result<()> {
-    beside(rt, 3, 1, 3, 0, 10_000)?;
-    beside(rt, 64, 5, 32, 625, 5_000)?;
-    beside(rt, 65, 14, 26, 2_000, 4_000)?;
-    beside(rt, 99, 1, 99, 0, 10_000)
+// The number of assets divides 10,000, but for that of the last four pools, with layers that have whole attachments all the same.
+fn all_beside(rt: &impl Print) -> io::Result<()> {
+    for (assets, (i, j), (lower, upper)) in [
+        (1, (1, 1), (0, 10_000)),
+        (2, (1, 1), (0, 5_000)),
+        (2, (2, 2), (5_000, 10_000)),
+        (4, (2, 3), (2_500, 7_500)),
+        (5, (1, 5), (0, 10_000)),
+        (5, (4, 4), (6_000, 8_000)),
+        (8, (3, 7), (2_500, 8_750)),
+        (10, (1, 3), (0, 3_000)),
+        (10, (10, 10), (9_000, 10_000)),
+        (16, (2, 15), (625, 9_375)),
+        (20, (2, 15), (500, 7_500)),
+        (20, (20, 20), (9_500, 10_000)),
+        (25, (5, 5), (1_600, 2_000)),
+        (40, (1, 39), (0, 9_750)),
+        (50, (11, 50), (2_000, 10_000)),
+        (80, (21, 60), (2_500, 7_500)),
+        (100, (1, 1), (0, 100)),
+        (100, (34, 67), (3_300, 6_700)),
+        (100, (1, 100), (0, 10_000)),
+        (3, (1, 3), (0, 10_000)),
+        (64, (5, 32), (625, 5_000)),
+        (65, (14, 26), (2_000, 4_000)),
+        (99, (1, 99), (0, 10_000)),
+    ] {
+        beside(rt, assets, Call::Layer(i, j), lower, upper)?;
+    }
+    Ok(())
 }
 
 // ---- losses around 2^−800
@@ -109,11 +110,9 @@ fn last_shown(rt: &impl Print, pool: Pool, i: u32, j: u32) -> io::Result<()>
 }
 
 fn faint(rt: &impl Print) -> io::Result<()> {
-    last_defaults(rt, 60)?;
-    last_defaults(rt, 61)?;
-    last_defaults(rt, 62)?;
-    last_defaults(rt, 63)?;
-    last_defaults(rt, 64)?;
+    for i in 60..65 {
+        last_defaults(rt, i)?;
+    }
     last_shown(rt, pool_of(98, 8, 0), 83, 92)?;
     last_shown(rt, pool_of(89, 3, 0), 73, 79)?;
     last_shown(rt, pool_of(94, 5, 0), 78, 87)?;
@@ -129,12 +128,10 @@ fn faint(rt: &impl Print) -> io::Result<()> {
 // ---- grounds
 
 fn each_edge(rt: &impl Print, pool: Pool, i: u32, later: u32) -> io::Result<()> {
-    layer(rt, pool, i, 0)?;
-    layer(rt, pool, i, 1)?;
-    layer(rt, pool, i, pool.assets)?;
-    layer(rt, pool, i, later)?;
-    layer(rt, pool, i, 0x8000_0000)?;
-    layer(rt, pool, i, MOST)
+    for j in [0, 1, pool.assets, later, 0x8000_0000, MOST] {
+        layer(rt, pool, i, j)?;
+    }
+    Ok(())
 }
 
 // Each of i and j at 0, at 1, at the last default, one behind it, and far behind it.
@@ -142,12 +139,10 @@ fn layer_edges(rt: &impl Print, assets: u32) -> io::Result<()>
     requires { assets ≤ 100 }
 {
     let later = assets + 1;
-    each_edge(rt, pool(assets), 0, later)?;
-    each_edge(rt, pool(assets), 1, later)?;
-    each_edge(rt, pool(assets), assets, later)?;
-    each_edge(rt, pool(assets), later, later)?;
-    each_edge(rt, pool(assets), 0x8000_0000, later)?;
-    each_edge(rt, pool(assets), MOST, later)
+    for i in [0, 1, assets, later, 0x8000_0000, MOST] {
+        each_edge(rt, pool(assets), i, later)?;
+    }
+    Ok(())
 }
 
 // Two defaults next to each other in both orders, and each of them alone.
@@ -159,50 +154,58 @@ fn neighbours(rt: &impl Print, assets: u32, i: u32, j: u32) -> io::Result<()> {
 }
 
 fn pool_edges(rt: &impl Print) -> io::Result<()> {
-    layer(rt, pool(0), 1, 1)?;
-    layer(rt, pool(1), 1, 1)?;
-    layer(rt, pool(100), 1, 1)?;
-    layer(rt, pool(101), 1, 1)?;
-    layer(rt, pool(MOST), 1, 1)?;
-    layer(rt, pool_of(3, 10_000, 3_000), 2, 3)?;
-    layer(rt, pool_of(3, 10_001, 3_000), 2, 3)?;
-    layer(rt, pool_of(3, MOST, 3_000), 2, 3)?;
-    layer(rt, pool_of(3, 1_000, 10_000), 2, 3)?;
-    layer(rt, pool_of(3, 1_000, 10_001), 2, 3)?;
-    layer(rt, pool_of(3, 1_000, MOST), 2, 3)
+    for assets in [0, 1, 100, 101, MOST] {
+        layer(rt, pool(assets), 1, 1)?;
+    }
+    run_each(
+        rt,
+        Call::Layer(2, 3),
+        &[
+            (3, 10_000, 3_000),
+            (3, 10_001, 3_000),
+            (3, MOST, 3_000),
+            (3, 1_000, 10_000),
+            (3, 1_000, 10_001),
+            (3, 1_000, MOST),
+        ],
+    )
 }
 
 // ---- the order of the grounds
 
 fn without_places(rt: &impl Print, pool: Pool, i: u32, j: u32) -> io::Result<()> {
-    run(rt, Call::Layer(i, j), pool, Lengths(0, 0, 0, 0))
+    run(rt, Call::Layer(i, j), pool, alike(0))
 }
 
 // A layer that is wrong in each way, with enough places and with none; then a right one with none.
 fn order_in(rt: &impl Print, pool: Pool) -> io::Result<()> {
-    layer(rt, pool, 0, 1)?;
-    layer(rt, pool, 2, 1)?;
-    layer(rt, pool, 1, 102)?;
-    layer(rt, pool, MOST, 0)?;
-    without_places(rt, pool, 0, 1)?;
-    without_places(rt, pool, 2, 1)?;
-    without_places(rt, pool, 1, 102)?;
-    without_places(rt, pool, MOST, 0)?;
+    const WRONG: [(u32, u32); 4] = [(0, 1), (2, 1), (1, 102), (MOST, 0)];
+    for (i, j) in WRONG {
+        layer(rt, pool, i, j)?;
+    }
+    for (i, j) in WRONG {
+        without_places(rt, pool, i, j)?;
+    }
     without_places(rt, pool, 1, 1)
 }
 
 fn order(rt: &impl Print) -> io::Result<()> {
-    order_in(rt, pool(0))?;
-    order_in(rt, pool(101))?;
-    order_in(rt, pool(MOST))?;
-    order_in(rt, pool_of(0, 10_001, 10_001))?;
-    order_in(rt, pool_of(101, 10_001, 3_000))?;
-    order_in(rt, pool_of(101, 1_000, 10_001))?;
-    order_in(rt, pool_of(3, 10_001, 3_000))?;
-    order_in(rt, pool_of(3, 10_001, 10_001))?;
-    order_in(rt, pool_of(3, 1_000, 10_001))?;
-    order_in(rt, pool(3))?;
-    order_in(rt, pool(100))
+    for (assets, probability, correlation) in [
+        (0, 1_000, 3_000),
+        (101, 1_000, 3_000),
+        (MOST, 1_000, 3_000),
+        (0, 10_001, 10_001),
+        (101, 10_001, 3_000),
+        (101, 1_000, 10_001),
+        (3, 10_001, 3_000),
+        (3, 10_001, 10_001),
+        (3, 1_000, 10_001),
+        (3, 1_000, 3_000),
+        (100, 1_000, 3_000),
+    ] {
+        order_in(rt, pool_of(assets, probability, correlation))?;
+    }
+    Ok(())
 }
 
 // ---- lengths of the store
@@ -243,12 +246,11 @@ fn main(rt: HostRuntime) -> io::Result<()> {
     layers(&rt, 64, 21)?;
     layers(&rt, 65, 33)?;
     layers(&rt, 100, 60)?;
-    divisors(&rt)?;
-    others(&rt)?;
+    all_beside(&rt)?;
     faint(&rt)?;
-    layer_edges(&rt, 1)?;
-    layer_edges(&rt, 3)?;
-    layer_edges(&rt, 100)?;
+    for assets in [1, 3, 100] {
+        layer_edges(&rt, assets)?;
+    }
     neighbours(&rt, 3, 1, 2)?;
     neighbours(&rt, 64, 40, 41)?;
     neighbours(&rt, 100, 99, 100)?;
@@ -261,5 +263,5 @@ fn main(rt: HostRuntime) -> io::Result<()> {
     lengths(&rt, 65, 2_211, 2_210)?;
     lengths(&rt, 100, 5_151, 5_150)?;
     stores(&rt)?;
-    random_cases(&rt, 100, Calls::Layers)
+    random_cases(100, |word| layers_case(&rt, word))
 }

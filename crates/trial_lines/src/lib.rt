@@ -1,13 +1,16 @@
 // What a line of output says of a call: what it was given, the refusal or the answer, and a checksum of each array.
 #![tactic(auto)]
 
+pub mod shown;
 pub mod tranches;
 
-use column_check::Verdict;
-use pool::{Pool, Tranche};
+use grounds::Lengths;
+use pool::{Pool, Refusal, Store, Tranche};
+use shown::Shown;
+use std::fmt::Display;
 use std::io;
-use tranches::{Tranches, write_tranche, write_tranches};
-use trial_support::{write, write_checksum, write_field, write_integer, write_number};
+use tranches::{Tranches, write_tranches};
+use trial_support::{START, Summed, checksum, first, refusal_number};
 
 // The places of a store that are lent where enough are: for up to 64 assets, and for more.
 pub const PLACES: usize = 2_150;
@@ -19,12 +22,8 @@ pub const ROWS: usize = 70;
 
 pub const LARGE_ROWS: usize = 106;
 
-// How many places are lent: of the low and the high significands, then of the low and the high exponents.
-#[derive(Clone, Copy)]
-pub struct Lengths(pub usize, pub usize, pub usize, pub usize);
-
 // The libraries that have a column and a loss call. Those of the beta-binomial are lent no store.
-#[derive(Clone, Copy)]
+#[derive(Clone, Copy, Debug, PartialEq, Eq)]
 pub enum Library {
     Pool,
     Screen,
@@ -33,7 +32,7 @@ pub enum Library {
 
 // A call, with what it takes beside the pool and the store: the number of a row, how many places of a column or of a shift list
 // are lent, one tranche, several tranches, the first and the last default of a layer. The claims of a check are passed beside it.
-#[derive(Clone, Copy)]
+#[derive(Clone, Copy, Debug, PartialEq, Eq)]
 pub enum Call {
     Fill,
     Row(u32),
@@ -53,81 +52,41 @@ pub fn pool_of(assets: u32, probability: u32, correlation: u32) -> Pool {
     }
 }
 
-pub fn write_length(rt: &impl Print, n: usize) -> io::Result<()> {
-    write(rt, b" ")?;
-    write_number(rt, n as u64)
-}
-
-pub fn write_pool(rt: &impl Print, pool: Pool) -> io::Result<()> {
-    write_field(rt, pool.assets)?;
-    write_field(rt, pool.probability)?;
-    write_field(rt, pool.correlation)
-}
-
-fn write_library(rt: &impl Print, library: Library) -> io::Result<()> {
-    match library {
-        Library::Pool => Ok(()),
-        Library::Screen => write(rt, b"screen "),
-        Library::BetaBinomial => write(rt, b"beta "),
+// Four slices of one length.
+pub fn alike(length: usize) -> Lengths {
+    Lengths {
+        low_significands: length,
+        high_significands: length,
+        low_exponents: length,
+        high_exponents: length,
     }
+}
+
+pub fn whole() -> Lengths {
+    alike(LARGE_PLACES)
 }
 
 fn write_call(rt: &impl Print, call: Call, pool: Pool) -> io::Result<()> {
+    let pool = Shown(pool);
     match call {
-        Call::Fill => {
-            write(rt, b"fill")?;
-            write_pool(rt, pool)
-        }
-        Call::Row(k) => {
-            write(rt, b"row")?;
-            write_field(rt, k)
-        }
-        Call::Column(library, _) => {
-            write_library(rt, library)?;
-            write(rt, b"column")?;
-            write_pool(rt, pool)
-        }
-        Call::Shifts(_) => {
-            write(rt, b"shifts")?;
-            write_pool(rt, pool)
-        }
+        Call::Fill => print!(rt; "fill {pool}"),
+        Call::Row(k) => print!(rt; "row {k}"),
+        Call::Column(library, _) => print!(rt; "{library}column {pool}"),
+        Call::Shifts(_) => print!(rt; "shifts {pool}"),
         Call::Loss(library, tranche) => {
-            write_library(rt, library)?;
-            write(rt, b"loss")?;
-            write_pool(rt, pool)?;
-            write_tranche(rt, tranche)
+            let Tranche {
+                recovery,
+                lower,
+                upper,
+            } = tranche;
+            print!(rt; "{library}loss {pool} {recovery} tranche {lower} {upper}")
         }
         Call::Losses(library, tranches) => {
-            write_library(rt, library)?;
-            write(rt, b"losses")?;
-            write_pool(rt, pool)?;
+            print!(rt; "{library}losses {pool}")?;
             write_tranches(rt, tranches)
         }
-        Call::Layer(i, j) => {
-            write(rt, b"layer")?;
-            write_pool(rt, pool)?;
-            write_field(rt, i)?;
-            write_field(rt, j)
-        }
-        Call::Check => {
-            write(rt, b"check")?;
-            write_pool(rt, pool)
-        }
-    }
-}
-
-pub fn write_store_lengths(rt: &impl Print, lengths: Lengths) -> io::Result<()> {
-    write(rt, b" lengths")?;
-    write_length(rt, lengths.0)?;
-    write_length(rt, lengths.1)?;
-    write_length(rt, lengths.2)?;
-    write_length(rt, lengths.3)
-}
-
-fn lends_store(library: Library) -> bool {
-    match library {
-        Library::BetaBinomial => false,
-        _ => true,
+        Call::Layer(i, j) => print!(rt; "layer {pool} {i} {j}"),
+        Call::Check => print!(rt; "check {pool}"),
     }
 }
 
@@ -135,47 +94,27 @@ fn lends_store(library: Library) -> bool {
 fn writes_store(call: Call) -> bool {
     match call {
         Call::Row(_) => false,
-        Call::Column(library, _) => lends_store(library),
-        Call::Loss(library, _) => lends_store(library),
-        Call::Losses(library, _) => lends_store(library),
+        Call::Column(library, _) | Call::Loss(library, _) | Call::Losses(library, _) => {
+            library != Library::BetaBinomial
+        }
         _ => true,
     }
 }
 
 fn write_lengths(rt: &impl Print, call: Call, lengths: Lengths) -> io::Result<()> {
     if writes_store(call) {
-        write_store_lengths(rt, lengths)?;
+        print!(rt; " lengths {}", Shown(lengths))?;
     } else if let Call::Column(_, _) = call {
-        write(rt, b" length")?;
+        print!(rt; " length")?;
     }
     match call {
-        Call::Column(_, places) => write_length(rt, places),
-        Call::Shifts(places) => write_length(rt, places),
+        Call::Column(_, places) | Call::Shifts(places) => print!(rt; " {places}"),
         _ => Ok(()),
     }
 }
 
-fn write_other(rt: &impl Print, call: Call, other: Pool) -> io::Result<()> {
-    match call {
-        Call::Row(_) => write(rt, b"filled")?,
-        _ => write(rt, b"over")?,
-    }
-    write_pool(rt, other)?;
-    write(rt, b" ")
-}
-
-// The assets of the pool that a row is read for, where the store is another's.
-fn write_reader(rt: &impl Print, call: Call, other: Pool, pool: Pool) -> io::Result<()> {
-    if let Call::Row(_) = call {
-        if pool.assets != other.assets {
-            write(rt, b" of")?;
-            write_field(rt, pool.assets)?;
-        }
-    }
-    Ok(())
-}
-
-// What a call was given. Where there is another pool enough places are lent, and no lengths are written.
+// What a call was given. Where there is another pool enough places are lent, and no lengths are written. The assets of the pool that
+// a row is read for are, where the store is another's.
 pub fn write_given(
     rt: &impl Print,
     other: Pool,
@@ -183,30 +122,27 @@ pub fn write_given(
     pool: Pool,
     lengths: Lengths,
 ) -> io::Result<()> {
-    if other.assets > 0 {
-        write_other(rt, call, other)?;
+    if other.assets == 0 {
         write_call(rt, call, pool)?;
-        write_reader(rt, call, other, pool)
-    } else {
-        write_call(rt, call, pool)?;
-        write_lengths(rt, call, lengths)
+        return write_lengths(rt, call, lengths);
     }
+    let Call::Row(k) = call else {
+        print!(rt; "over {} ", Shown(other))?;
+        return write_call(rt, call, pool);
+    };
+    print!(rt; "filled {} row {k}", Shown(other))?;
+    if pool.assets != other.assets {
+        print!(rt; " of {}", pool.assets)?;
+    }
+    Ok(())
 }
 
 // The checksum of an array of which so many places were lent: of the few for up to 64 assets, or of all where more were.
-fn write_naturals(rt: &impl Print, places: &[u32], lent: usize, few: usize) -> io::Result<()> {
-    if lent <= few && few <= places.len() {
-        write_checksum(rt, &places[0..few], &[])
+fn sum_of<T: Summed>(places: &[T], lent: usize, few: usize) -> u64 {
+    if lent <= few {
+        checksum(START, first(places, few))
     } else {
-        write_checksum(rt, places, &[])
-    }
-}
-
-fn write_integers(rt: &impl Print, places: &[i32], lent: usize, few: usize) -> io::Result<()> {
-    if lent <= few && few <= places.len() {
-        write_checksum(rt, &[], &places[0..few])
-    } else {
-        write_checksum(rt, &[], places)
+        checksum(START, places)
     }
 }
 
@@ -215,123 +151,83 @@ pub fn write_store(
     rt: &impl Print,
     call: Call,
     lengths: Lengths,
-    low_significands: &[u32],
-    high_significands: &[u32],
-    low_exponents: &[i32],
-    high_exponents: &[i32],
+    store: &Store<'_>,
 ) -> io::Result<()> {
     if !writes_store(call) {
-        return write(rt, b"\n");
+        return println!(rt; "");
     }
-    write(rt, b" slices")?;
-    write_naturals(rt, low_significands, lengths.0, PLACES)?;
-    write_naturals(rt, high_significands, lengths.1, PLACES)?;
-    write_integers(rt, low_exponents, lengths.2, PLACES)?;
-    write_integers(rt, high_exponents, lengths.3, PLACES)?;
-    write(rt, b"\n")
+    println!(rt;
+        " slices {:016x} {:016x} {:016x} {:016x}",
+        sum_of(store.low_significands, lengths.low_significands, PLACES),
+        sum_of(store.high_significands, lengths.high_significands, PLACES),
+        sum_of(store.low_exponents, lengths.low_exponents, PLACES),
+        sum_of(store.high_exponents, lengths.high_exponents, PLACES)
+    )
 }
 
-pub fn write_refusal(rt: &impl Print, refusal: u32) -> io::Result<()> {
-    write(rt, b" refusal")?;
-    write_field(rt, refusal)
+pub fn write_outcome(rt: &impl Print, outcome: Result<(), Refusal>) -> io::Result<()> {
+    print!(rt; " refusal {}", refusal_number(outcome))
 }
 
 pub fn write_head(rt: &impl Print, head: Pool) -> io::Result<()> {
-    write(rt, b" head")?;
-    write_pool(rt, head)
+    print!(rt; " head {}", Shown(head))
 }
 
 // The head that a call handed back, if it is not the one that is wanted.
 pub fn write_wrong_head(rt: &impl Print, head: Pool, wanted: Pool) -> io::Result<()> {
-    if (head.assets != wanted.assets)
-        | (head.probability != wanted.probability)
-        | (head.correlation != wanted.correlation)
-    {
+    if head != wanted {
         write_head(rt, head)?;
     }
     Ok(())
 }
 
-fn write_signed(rt: &impl Print, n: i32) -> io::Result<()> {
-    write(rt, b" ")?;
-    write_integer(rt, n)
-}
-
-// The naturals, then the integers.
-pub fn write_numbers(rt: &impl Print, naturals: &[u32], integers: &[i32]) -> io::Result<()> {
-    let count = naturals.len();
-    for i in 0..count + integers.len() {
-        if i < count {
-            write_field(rt, naturals[i])?;
-        } else {
-            write_signed(rt, integers[i - count])?;
-        }
+pub fn write_numbers<T: Copy + Display>(rt: &impl Print, numbers: &[T]) -> io::Result<()> {
+    for n in numbers {
+        print!(rt; " {n}")?;
     }
     Ok(())
 }
 
 pub fn write_row(rt: &impl Print, part: &[u32]) -> io::Result<()> {
-    write(rt, b" part")?;
-    write_length(rt, part.len())?;
-    write_numbers(rt, part, &[])
+    print!(rt; " part {}", part.len())?;
+    write_numbers(rt, part)
 }
 
 // A part by its length and both ends.
 pub fn write_part(rt: &impl Print, part: &[u32]) -> io::Result<()> {
-    write(rt, b" part")?;
-    write_length(rt, part.len())?;
-    if 0 < part.len() {
-        write_field(rt, part[0])?;
-        write_field(rt, part[part.len() - 1])?;
+    match part {
+        [first, .., last] => println!(rt; " part {} {first} {last}", part.len()),
+        [only] => println!(rt; " part 1 {only} {only}"),
+        [] => println!(rt; " part 0"),
     }
-    write(rt, b"\n")
 }
 
-// The refusal, rows 0 to n where it is 0, and the checksum of what the rows were written to.
-pub fn write_column(
+// The refusal, entries 0 to n of a column or a list if there is none, and the checksum of what they were written to.
+pub fn write_list<T: Summed + Display>(
     rt: &impl Print,
+    name: &str,
     pool: Pool,
-    refusal: u32,
-    units: &[u32],
+    outcome: Result<(), Refusal>,
+    list: &[T],
     lent: usize,
 ) -> io::Result<()> {
-    write_refusal(rt, refusal)?;
-    let rows = pool.assets as usize + 1;
-    if refusal == 0 && rows <= units.len() {
-        write_numbers(rt, &units[0..rows], &[])?;
+    write_outcome(rt, outcome)?;
+    if outcome.is_ok() {
+        write_numbers(rt, first(list, pool.assets as usize + 1))?;
     }
-    write(rt, b" rows")?;
-    write_naturals(rt, units, lent, ROWS)
+    print!(rt; " {name} {:016x}", sum_of(list, lent, ROWS))
 }
 
-// The refusal, entries 0 to n where it is 0, and the checksum of what the list was written to.
-pub fn write_shifts(
+// What the check of a column says, how many claims were lent, and the checksum of what they are now.
+pub fn write_verdict(
     rt: &impl Print,
-    pool: Pool,
-    refusal: u32,
-    shifts: &[i32],
-    lent: usize,
+    verdict: Result<Option<u32>, Refusal>,
+    claims: &[u32],
 ) -> io::Result<()> {
-    write_refusal(rt, refusal)?;
-    let entries = pool.assets as usize + 1;
-    if refusal == 0 && entries <= shifts.len() {
-        write_numbers(rt, &[], &shifts[0..entries])?;
-    }
-    write(rt, b" list")?;
-    write_integers(rt, shifts, lent, ROWS)
-}
-
-// The verdict, how many claims were lent, and the checksum of what they are now.
-pub fn write_verdict(rt: &impl Print, verdict: Verdict, claims: &[u32]) -> io::Result<()> {
     match verdict {
-        Verdict::Refused(refusal) => write_refusal(rt, refusal)?,
-        Verdict::Passed => write(rt, b" passed")?,
-        Verdict::Fails(k) => {
-            write(rt, b" fails")?;
-            write_field(rt, k)?;
-        }
+        Ok(None) => print!(rt; " passed")?,
+        Ok(Some(k)) => print!(rt; " fails {k}")?,
+        Err(refusal) => print!(rt; " refusal {}", u32::from(refusal))?,
     }
-    write(rt, b" claims")?;
-    write_length(rt, claims.len())?;
-    write_checksum(rt, claims, &[])
+    print!(rt; " claims {} {:016x}", claims.len(), checksum(START, claims))
 }

@@ -6,89 +6,81 @@
 ghost use Rattle.std.specs.Prelude.{◌≤◌, ◌<◌};
 
 use kept::{Kept, Side};
-use pool::{Loss, Pool, TRANCHES, Tranche, TrancheLoss};
-use std::io;
-use trial_support::{bits, magnitude, operand, write, write_field, write_number};
+use pool::{Loss, Pool, StoreMut, TRANCHES, Tranche};
+use std::{fmt, io};
+use trial_support::{bits, operand};
 use working::PLACES;
 
 // The places of a store for 36 assets.
 const STORE: usize = 703;
 
-// n / 2, a half rounded up.
-fn half(n: u64) -> u64 {
-    n / 2 + n % 2
+// significand / 2^shift, written in per cent with two, three or four digits behind the point, rounded to the nearest, a half up.
+#[derive(Clone, Copy, Debug, PartialEq, Eq)]
+struct Percentage {
+    significand: u32,
+    shift: u32,
+    digits: usize,
 }
 
-// 100 × significand / 2^shift with two, three or four digits behind the point, rounded to the nearest: as a whole number of the
-// last digit.
-fn nearest(significand: u32, shift: u64, digits: u32) -> u64 {
-    if shift > 63 {
-        return 0;
+impl Percentage {
+    // A number below 1.
+    fn of_kept(x: Kept, digits: usize) -> Percentage {
+        Percentage {
+            significand: x.significand,
+            shift: x.exponent.unsigned_abs(),
+            digits,
+        }
     }
-    let doubled = match digits {
-        2 => significand as u64 * 20_000,
-        3 => significand as u64 * 200_000,
-        _ => significand as u64 * 2_000_000,
-    };
-    half(doubled >> shift)
+
+    // The same, by the first 32 of its binary digits.
+    fn of_f64(x: f64, digits: usize) -> Percentage {
+        let word = bits(x);
+        let shift = 1_054u64.saturating_sub(word >> 52);
+        Percentage {
+            significand: 0x8000_0000 + (word % 0x10_0000_0000_0000 >> 21) as u32,
+            shift: shift as u32,
+            digits,
+        }
+    }
 }
 
-fn write_percentage(rt: &impl Print, n: u64, digits: u32) -> io::Result<()> {
-    write(rt, b" ")?;
-    match digits {
-        2 => write_number(rt, n / 100)?,
-        3 => write_number(rt, n / 1_000)?,
-        _ => write_number(rt, n / 10_000)?,
+impl fmt::Display for Percentage {
+    fn fmt<W: fmt::Write>(&self, f: &mut fmt::Formatter<W>) -> fmt::Result {
+        let digits = self.digits;
+        let one: u64 = match digits {
+            2 => 100,
+            3 => 1_000,
+            _ => 10_000,
+        };
+        let doubled = u64::from(self.significand) * one * 200;
+        let n = doubled.checked_shr(self.shift).unwrap_or(0).div_ceil(2);
+        write!(f, "{}.{:0digits$}%", n / one, n % one)
     }
-    write(rt, b".")?;
-    if digits > 3 {
-        write_number(rt, n / 1_000 % 10)?;
-    }
-    if digits > 2 {
-        write_number(rt, n / 100 % 10)?;
-    }
-    write_number(rt, n / 10 % 10)?;
-    write_number(rt, n % 10)?;
-    write(rt, b"%")
-}
-
-fn write_kept(rt: &impl Print, x: Kept, digits: u32) -> io::Result<()> {
-    write_percentage(
-        rt,
-        nearest(x.significand, magnitude(x.exponent), digits),
-        digits,
-    )
 }
 
 // The chances of 0 to n defaults on one side, at a default probability of 5 per cent.
+#[tactic(auto, unfolding(steps::specs::Inputs::working_assets, model::specs::Fraction::whole))]
 fn chances_of(n: u32, correlation: u32, side: Side) -> [Kept; PLACES]
     requires not_empty { 0 < n }
     requires assets { n ≤ 36 }
     requires correlation { correlation ≤ 10000 }
 {
-    let row = rows::last_row(n, 500, correlation, side);
+    let pool = Pool {
+        assets: n,
+        probability: 500,
+        correlation,
+    };
+    let row = rows::last_row(pool, side);
     chances::chances(n, row, side)
 }
 
 // Up to four defaults two digits are printed, then three.
-fn write_chance(rt: &impl Print, j: usize, low: Kept, high: Kept) -> io::Result<()> {
-    let digits = if j < 5 { 2 } else { 3 };
-    write_number(rt, j as u64)?;
-    write_kept(rt, low, digits)?;
-    write_kept(rt, high, digits)?;
-    write(rt, b"\n")
-}
-
-fn write_chances(
-    rt: &impl Print,
-    low: [Kept; PLACES],
-    high: [Kept; PLACES],
-    count: usize,
-) -> io::Result<()>
-    requires { count ≤ 65 }
-{
-    for j in 0..count {
-        write_chance(rt, j, low[j], high[j])?;
+fn write_chances(rt: &impl Print, low: &[Kept], high: &[Kept]) -> io::Result<()> {
+    for (j, (low, high)) in low.iter().zip(high).enumerate() {
+        let digits = if j < 5 { 2 } else { 3 };
+        let low = Percentage::of_kept(*low, digits);
+        let high = Percentage::of_kept(*high, digits);
+        println!(rt; "{j} {low} {high}")?;
     }
     Ok(())
 }
@@ -98,40 +90,18 @@ fn plus(x: Kept, y: Kept, side: Side) -> Kept {
 }
 
 // The chance that more than half of ten assets default, added from ten down.
-fn more_than_half(chances: [Kept; PLACES], side: Side) -> Kept {
-    let from_nine = plus(chances[10], chances[9], side);
-    let from_eight = plus(from_nine, chances[8], side);
-    let from_seven = plus(from_eight, chances[7], side);
-    plus(from_seven, chances[6], side)
-}
-
-fn significand_of(word: u64) -> u32 {
-    0x8000_0000 + (word % 0x10_0000_0000_0000 >> 21) as u32
-}
-
-fn shift_of(word: u64) -> u64 {
-    let field = word >> 52;
-    if field < 1_054 { 1_054 - field } else { 0 }
-}
-
-fn write_f64(rt: &impl Print, x: f64) -> io::Result<()> {
-    let word = bits(x);
-    write_percentage(rt, nearest(significand_of(word), shift_of(word), 4), 4)
-}
-
-fn write_heading(rt: &impl Print, table: u64, assets: u32, correlation: u32) -> io::Result<()> {
-    write(rt, b"table ")?;
-    write_number(rt, table)?;
-    write(rt, b" assets")?;
-    write_field(rt, assets)?;
-    write(rt, b" correlation")?;
-    write_field(rt, correlation)
+fn more_than_half(chances: [Kept; PLACES], side: Side) -> Percentage {
+    let sum = chances[6..11]
+        .iter()
+        .rev()
+        .fold(Kept::zero(), |sum, chance| plus(sum, *chance, side));
+    Percentage::of_kept(sum, 3)
 }
 
 // The first chances of a column of Table 1 or 2. Table 1 has the chance that more than half default too.
 fn column(
     rt: &impl Print,
-    table: u64,
+    table: u32,
     assets: u32,
     correlation: u32,
     count: usize,
@@ -140,14 +110,12 @@ fn column(
 {
     let low = chances_of(assets, correlation, Side::Low);
     let high = chances_of(assets, correlation, Side::High);
-    write_heading(rt, table, assets, correlation)?;
-    write(rt, b"\n")?;
-    write_chances(rt, low, high, count)?;
+    println!(rt; "table {table} assets {assets} correlation {correlation}")?;
+    write_chances(rt, &low[..count], &high[..count])?;
     if table == 1 {
-        write(rt, b"more than half")?;
-        write_kept(rt, more_than_half(low, Side::Low), 3)?;
-        write_kept(rt, more_than_half(high, Side::High), 3)?;
-        write(rt, b"\n")?;
+        let low = more_than_half(low, Side::Low);
+        let high = more_than_half(high, Side::High);
+        println!(rt; "more than half {low} {high}")?;
     }
     Ok(())
 }
@@ -161,17 +129,20 @@ fn tranche_of(lower: u32, upper: u32) -> Tranche {
     }
 }
 
-fn write_loss(rt: &impl Print, pool: Pool, tranche: Tranche, place: TrancheLoss) -> io::Result<()> {
-    write_heading(rt, 4, pool.assets, pool.correlation)?;
-    write(rt, b" tranche")?;
-    write_field(rt, tranche.lower)?;
-    write_field(rt, tranche.upper)?;
-    let loss = place.loss;
-    if let Loss::Shown(bounds) = loss {
-        write_f64(rt, bounds.low)?;
-        write_f64(rt, bounds.high)?;
+fn write_loss(rt: &impl Print, pool: Pool, tranche: Tranche, loss: Loss) -> io::Result<()> {
+    print!(rt;
+        "table 4 assets {} correlation {}",
+        pool.assets, pool.correlation
+    )?;
+    print!(rt; " tranche {} {}", tranche.lower, tranche.upper)?;
+    match loss {
+        Loss::Shown(bounds) => {
+            let low = Percentage::of_f64(bounds.low, 4);
+            let high = Percentage::of_f64(bounds.high, 4);
+            println!(rt; " {low} {high}")
+        }
+        _ => println!(rt; ""),
     }
-    write(rt, b"\n")
 }
 
 // The expected losses of two tranches of Table 4, one on top of the other, by one call.
@@ -187,6 +158,12 @@ fn losses(
     let mut high_significands = [0u32; STORE];
     let mut low_exponents = [0i32; STORE];
     let mut high_exponents = [0i32; STORE];
+    let mut store = StoreMut {
+        low_significands: &mut low_significands,
+        high_significands: &mut high_significands,
+        low_exponents: &mut low_exponents,
+        high_exponents: &mut high_exponents,
+    };
     let pool = Pool {
         assets,
         probability,
@@ -196,18 +173,8 @@ fn losses(
     let junior = tranche_of(lower, upper);
     let mut tranches = [junior; TRANCHES];
     tranches[0] = senior;
-    let filled = pool::tranche_losses(
-        pool,
-        pool,
-        tranches,
-        2,
-        &mut low_significands,
-        &mut high_significands,
-        &mut low_exponents,
-        &mut high_exponents,
-    );
-    let answer = filled.answer;
-    let losses = answer.losses;
+    let filled = pool::tranche_losses(pool, pool, tranches, 2, &mut store);
+    let losses = filled.answer.losses;
     write_loss(rt, pool, senior, losses[0])?;
     write_loss(rt, pool, junior, losses[1])
 }

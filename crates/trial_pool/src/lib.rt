@@ -1,17 +1,18 @@
-// Runs a call on lent slices and prints its line. The slices are the first places of the arrays, so that a write behind them is
-// seen.
+// Runs a call on lent slices and prints its line.
 #![tactic(auto)]
 
-use column_check::Verdict;
-use pool::{Answer, Filled, FilledLosses, Pool, TRANCHES, Tranche};
+pub mod arrays;
+
+use arrays::Arrays;
+use grounds::Lengths;
+use pool::{Answer, Filled, Pool, Refusal, StoreMut, TRANCHES, Tranche};
 use std::io;
-use trial_lines::tranches::{Tranches, array_of, one, write_answer, write_layer};
+use trial_lines::tranches::{Tranches, one, tranche_of, write_answer, write_layer};
 use trial_lines::{
-    Call, LARGE_PLACES, LARGE_ROWS, Lengths, Library, PLACES, pool_of, write_column, write_given,
-    write_length, write_part, write_refusal, write_row, write_shifts, write_store, write_verdict,
-    write_wrong_head,
+    Call, LARGE_PLACES, LARGE_ROWS, Library, PLACES, alike, pool_of, whole, write_given,
+    write_list, write_outcome, write_part, write_row, write_store, write_verdict, write_wrong_head,
 };
-use trial_support::{write, write_field};
+use trial_support::{first, first_mut};
 
 // The fewest assets that the calls refuse by 1, and the shift list.
 pub const BEYOND: u32 = 101;
@@ -23,157 +24,83 @@ const MARK: u32 = 1_000_000_007;
 
 const INTEGER_MARK: i32 = 1_000_007;
 
-// The first places of a slice, as many as asked for or as there are.
-pub fn first_naturals(places: &mut [u32], count: usize) -> &mut [u32] {
-    if count < places.len() {
-        &mut places[0..count]
-    } else {
-        places
-    }
-}
-
-pub fn first_integers(places: &mut [i32], count: usize) -> &mut [i32] {
-    if count < places.len() {
-        &mut places[0..count]
-    } else {
-        places
-    }
-}
+// What a call hands back: whether it is refused, and the head of the store.
+pub type Ended = Filled<Result<(), Refusal>>;
 
 // The pool that a call is given, and the head of the store that it is lent.
-#[derive(Clone, Copy)]
+#[derive(Clone, Copy, Debug, PartialEq, Eq)]
 pub struct Given {
     pub pool: Pool,
     pub head: Pool,
 }
 
-// With a head that no call handed back.
-fn with_marks(pool: Pool) -> Given {
-    Given {
-        pool,
-        head: pool_of(MARK, MARK + 1, MARK + 2),
+impl Given {
+    // With a head that no call handed back.
+    fn marked(pool: Pool) -> Given {
+        Given {
+            pool,
+            head: pool_of(MARK, MARK + 1, MARK + 2),
+        }
+    }
+
+    // The head that a call has to hand back: the pool, or on a refusal the one that came.
+    fn head_after(self, outcome: Result<(), Refusal>) -> Pool {
+        if outcome.is_ok() {
+            self.pool
+        } else {
+            self.head
+        }
+    }
+
+    // What a call that is lent no store would hand back of one.
+    fn ended(self, outcome: Result<(), Refusal>) -> Ended {
+        Filled {
+            answer: outcome,
+            head: self.head_after(outcome),
+        }
     }
 }
 
-// The head that a call has to hand back: the pool, or on a refusal the one that came.
-fn head_after(given: Given, refusal: u32) -> Pool {
-    if refusal == 0 { given.pool } else { given.head }
-}
-
-// The same of a call that is lent no store.
-fn no_store(given: Given, refusal: u32) -> Filled {
-    Filled {
-        refusal,
-        head: head_after(given, refusal),
-    }
-}
-
-fn no_store_losses(given: Given, answer: Answer) -> FilledLosses {
-    FilledLosses {
-        answer,
-        head: head_after(given, answer.refusal),
-    }
-}
-
-fn column(
-    library: Library,
-    given: Given,
-    low_significands: &mut [u32],
-    high_significands: &mut [u32],
-    low_exponents: &mut [i32],
-    high_exponents: &mut [i32],
-    units: &mut [u32],
-) -> Filled {
+fn column(library: Library, given: Given, store: &mut StoreMut<'_>, units: &mut [u32]) -> Ended {
+    let Given { pool, head } = given;
     match library {
-        Library::Pool => pool::column(
-            given.pool,
-            given.head,
-            low_significands,
-            high_significands,
-            low_exponents,
-            high_exponents,
-            units,
-        ),
-        Library::Screen => screen::column(
-            given.pool,
-            given.head,
-            low_significands,
-            high_significands,
-            low_exponents,
-            high_exponents,
-            units,
-        ),
-        Library::BetaBinomial => no_store(given, beta_binomial::column(given.pool, units)),
+        Library::Pool => pool::column(pool, head, store, units),
+        Library::Screen => screen::column(pool, head, store, units),
+        Library::BetaBinomial => given.ended(beta_binomial::column(pool, units)),
     }
 }
 
 fn losses(
     library: Library,
     given: Given,
-    tranches: [Tranche; TRANCHES],
-    count: u32,
-    low_significands: &mut [u32],
-    high_significands: &mut [u32],
-    low_exponents: &mut [i32],
-    high_exponents: &mut [i32],
-) -> FilledLosses {
+    tranches: Tranches,
+    store: &mut StoreMut<'_>,
+) -> Filled<Answer> {
+    let Given { pool, head } = given;
+    let Tranches { count, records } = tranches;
     match library {
-        Library::Pool => pool::tranche_losses(
-            given.pool,
-            given.head,
-            tranches,
-            count,
-            low_significands,
-            high_significands,
-            low_exponents,
-            high_exponents,
-        ),
-        Library::Screen => screen::tranche_losses(
-            given.pool,
-            given.head,
-            tranches,
-            count,
-            low_significands,
-            high_significands,
-            low_exponents,
-            high_exponents,
-        ),
-        Library::BetaBinomial => no_store_losses(
-            given,
-            beta_binomial::tranche_losses(given.pool, tranches, count),
-        ),
+        Library::Pool => pool::tranche_losses(pool, head, records, count, store),
+        Library::Screen => screen::tranche_losses(pool, head, records, count, store),
+        Library::BetaBinomial => {
+            let answer = beta_binomial::tranche_losses(pool, records, count);
+            Filled {
+                answer,
+                head: given.head_after(answer.outcome),
+            }
+        }
     }
 }
 
-fn answer_fill(
-    rt: &impl Print,
-    given: Given,
-    low_significands: &mut [u32],
-    high_significands: &mut [u32],
-    low_exponents: &mut [i32],
-    high_exponents: &mut [i32],
-) -> io::Result<Filled> {
-    let filled = pool::fill(
-        given.pool,
-        given.head,
-        low_significands,
-        high_significands,
-        low_exponents,
-        high_exponents,
-    );
-    write_refusal(rt, filled.refusal)?;
+fn answer_fill(rt: &impl Print, given: Given, store: &mut StoreMut<'_>) -> io::Result<Ended> {
+    let filled = pool::fill(given.pool, given.head, store);
+    write_outcome(rt, filled.answer)?;
     Ok(filled)
 }
 
-fn answer_row(
-    rt: &impl Print,
-    given: Given,
-    k: u32,
-    low_significands: &[u32],
-) -> io::Result<Filled> {
+fn answer_row(rt: &impl Print, given: Given, k: u32, significands: &[u32]) -> io::Result<Ended> {
     let n = given.pool.assets;
-    write_row(rt, pool::row(n, k, low_significands))?;
-    Ok(no_store(given, pool::row_refusal(n, k, low_significands)))
+    write_row(rt, pool::row(n, k, significands))?;
+    Ok(given.ended(pool::row_refusal(n, k, significands)))
 }
 
 fn answer_column(
@@ -181,22 +108,11 @@ fn answer_column(
     library: Library,
     given: Given,
     length: usize,
-    low_significands: &mut [u32],
-    high_significands: &mut [u32],
-    low_exponents: &mut [i32],
-    high_exponents: &mut [i32],
-) -> io::Result<Filled> {
+    store: &mut StoreMut<'_>,
+) -> io::Result<Ended> {
     let mut units = [MARK; LARGE_ROWS];
-    let filled = column(
-        library,
-        given,
-        low_significands,
-        high_significands,
-        low_exponents,
-        high_exponents,
-        first_naturals(&mut units, length),
-    );
-    write_column(rt, given.pool, filled.refusal, &units, length)?;
+    let filled = column(library, given, store, first_mut(&mut units, length));
+    write_list(rt, "rows", given.pool, filled.answer, &units, length)?;
     Ok(filled)
 }
 
@@ -204,22 +120,12 @@ fn answer_shifts(
     rt: &impl Print,
     given: Given,
     length: usize,
-    low_significands: &mut [u32],
-    high_significands: &mut [u32],
-    low_exponents: &mut [i32],
-    high_exponents: &mut [i32],
-) -> io::Result<Filled> {
+    store: &mut StoreMut<'_>,
+) -> io::Result<Ended> {
     let mut shifts = [INTEGER_MARK; LARGE_ROWS];
-    let filled = shift::shift_list(
-        given.pool,
-        given.head,
-        low_significands,
-        high_significands,
-        low_exponents,
-        high_exponents,
-        first_integers(&mut shifts, length),
-    );
-    write_shifts(rt, given.pool, filled.refusal, &shifts, length)?;
+    let lent = first_mut(&mut shifts, length);
+    let filled = shift::shift_list(given.pool, given.head, store, lent);
+    write_list(rt, "list", given.pool, filled.answer, &shifts, length)?;
     Ok(filled)
 }
 
@@ -228,27 +134,12 @@ fn answer_losses(
     library: Library,
     given: Given,
     tranches: Tranches,
-    low_significands: &mut [u32],
-    high_significands: &mut [u32],
-    low_exponents: &mut [i32],
-    high_exponents: &mut [i32],
-) -> io::Result<Filled> {
-    let count = tranches.count;
-    let filled = losses(
-        library,
-        given,
-        array_of(tranches.records),
-        count,
-        low_significands,
-        high_significands,
-        low_exponents,
-        high_exponents,
-    );
-    let answer = filled.answer;
-    let head = filled.head;
-    write_answer(rt, answer, count)?;
+    store: &mut StoreMut<'_>,
+) -> io::Result<Ended> {
+    let Filled { answer, head } = losses(library, given, tranches, store);
+    write_answer(rt, answer, tranches.count)?;
     Ok(Filled {
-        refusal: answer.refusal,
+        answer: answer.outcome,
         head,
     })
 }
@@ -258,215 +149,48 @@ fn answer_layer(
     given: Given,
     i: u32,
     j: u32,
-    low_significands: &mut [u32],
-    high_significands: &mut [u32],
-    low_exponents: &mut [i32],
-    high_exponents: &mut [i32],
-) -> io::Result<Filled> {
-    let filled = pool::layer_loss(
-        given.pool,
-        given.head,
-        i,
-        j,
-        low_significands,
-        high_significands,
-        low_exponents,
-        high_exponents,
-    );
-    let answer = filled.answer;
-    let head = filled.head;
+    store: &mut StoreMut<'_>,
+) -> io::Result<Ended> {
+    let Filled { answer, head } = pool::layer_loss(given.pool, given.head, i, j, store);
     write_layer(rt, answer)?;
     Ok(Filled {
-        refusal: answer.refusal,
+        answer: answer.map(|_| ()),
         head,
     })
-}
-
-fn refusal_of(verdict: Verdict) -> u32 {
-    match verdict {
-        Verdict::Refused(refusal) => refusal,
-        _ => 0,
-    }
 }
 
 fn answer_check(
     rt: &impl Print,
     given: Given,
     claims: &[u32],
-    low_significands: &mut [u32],
-    high_significands: &mut [u32],
-    low_exponents: &mut [i32],
-    high_exponents: &mut [i32],
-) -> io::Result<Filled> {
-    let filled = column_check::check_column(
-        given.pool,
-        given.head,
-        claims,
-        low_significands,
-        high_significands,
-        low_exponents,
-        high_exponents,
-    );
-    let verdict = filled.verdict;
-    let head = filled.head;
-    write_verdict(rt, verdict, claims)?;
+    store: &mut StoreMut<'_>,
+) -> io::Result<Ended> {
+    let Filled { answer, head } = column_check::check_column(given.pool, given.head, claims, store);
+    write_verdict(rt, answer, claims)?;
     Ok(Filled {
-        refusal: refusal_of(verdict),
+        answer: answer.map(|_| ()),
         head,
     })
 }
 
-// Makes a call for losses and writes what it answers.
-fn answer_loss(
-    rt: &impl Print,
-    call: Call,
-    given: Given,
-    low_significands: &mut [u32],
-    high_significands: &mut [u32],
-    low_exponents: &mut [i32],
-    high_exponents: &mut [i32],
-) -> io::Result<Filled> {
-    match call {
-        Call::Loss(library, tranche) => answer_losses(
-            rt,
-            library,
-            given,
-            one(tranche),
-            low_significands,
-            high_significands,
-            low_exponents,
-            high_exponents,
-        ),
-        Call::Losses(library, tranches) => answer_losses(
-            rt,
-            library,
-            given,
-            tranches,
-            low_significands,
-            high_significands,
-            low_exponents,
-            high_exponents,
-        ),
-        Call::Layer(i, j) => answer_layer(
-            rt,
-            given,
-            i,
-            j,
-            low_significands,
-            high_significands,
-            low_exponents,
-            high_exponents,
-        ),
-        _ => Ok(no_store(given, 0)),
-    }
-}
-
-// Makes a call that needs no claims and writes what it answers.
-fn answer_pool(
-    rt: &impl Print,
-    call: Call,
-    given: Given,
-    low_significands: &mut [u32],
-    high_significands: &mut [u32],
-    low_exponents: &mut [i32],
-    high_exponents: &mut [i32],
-) -> io::Result<Filled> {
-    match call {
-        Call::Row(k) => answer_row(rt, given, k, low_significands),
-        Call::Column(library, length) => answer_column(
-            rt,
-            library,
-            given,
-            length,
-            low_significands,
-            high_significands,
-            low_exponents,
-            high_exponents,
-        ),
-        Call::Shifts(length) => answer_shifts(
-            rt,
-            given,
-            length,
-            low_significands,
-            high_significands,
-            low_exponents,
-            high_exponents,
-        ),
-        _ => answer_loss(
-            rt,
-            call,
-            given,
-            low_significands,
-            high_significands,
-            low_exponents,
-            high_exponents,
-        ),
-    }
-}
-
 // Makes a call and writes what it answers.
-fn answer(
+pub fn answer(
     rt: &impl Print,
     call: Call,
     given: Given,
     claims: &[u32],
-    low_significands: &mut [u32],
-    high_significands: &mut [u32],
-    low_exponents: &mut [i32],
-    high_exponents: &mut [i32],
-) -> io::Result<Filled> {
+    store: &mut StoreMut<'_>,
+) -> io::Result<Ended> {
     match call {
-        Call::Fill => answer_fill(
-            rt,
-            given,
-            low_significands,
-            high_significands,
-            low_exponents,
-            high_exponents,
-        ),
-        Call::Check => answer_check(
-            rt,
-            given,
-            claims,
-            low_significands,
-            high_significands,
-            low_exponents,
-            high_exponents,
-        ),
-        _ => answer_pool(
-            rt,
-            call,
-            given,
-            low_significands,
-            high_significands,
-            low_exponents,
-            high_exponents,
-        ),
+        Call::Fill => answer_fill(rt, given, store),
+        Call::Row(k) => answer_row(rt, given, k, store.low_significands),
+        Call::Column(library, length) => answer_column(rt, library, given, length, store),
+        Call::Shifts(length) => answer_shifts(rt, given, length, store),
+        Call::Loss(library, tranche) => answer_losses(rt, library, given, one(tranche), store),
+        Call::Losses(library, tranches) => answer_losses(rt, library, given, tranches, store),
+        Call::Layer(i, j) => answer_layer(rt, given, i, j, store),
+        Call::Check => answer_check(rt, given, claims, store),
     }
-}
-
-// The same on the first places of arrays.
-pub fn answer_on(
-    rt: &impl Print,
-    call: Call,
-    given: Given,
-    claims: &[u32],
-    lengths: Lengths,
-    low_significands: &mut [u32],
-    high_significands: &mut [u32],
-    low_exponents: &mut [i32],
-    high_exponents: &mut [i32],
-) -> io::Result<Filled> {
-    answer(
-        rt,
-        call,
-        given,
-        claims,
-        first_naturals(low_significands, lengths.0),
-        first_naturals(high_significands, lengths.1),
-        first_integers(low_exponents, lengths.2),
-        first_integers(high_exponents, lengths.3),
-    )
 }
 
 // Runs a call on arrays that hold another pool's store, and looks at the head that it hands back. A pool of no assets is refused,
@@ -479,41 +203,13 @@ fn run_on(
     claims: &[u32],
     lengths: Lengths,
 ) -> io::Result<()> {
-    let mut low_significands = [MARK; LARGE_PLACES];
-    let mut high_significands = [MARK; LARGE_PLACES];
-    let mut low_exponents = [INTEGER_MARK; LARGE_PLACES];
-    let mut high_exponents = [INTEGER_MARK; LARGE_PLACES];
-    pool::fill(
-        other,
-        other,
-        &mut low_significands,
-        &mut high_significands,
-        &mut low_exponents,
-        &mut high_exponents,
-    );
+    let mut arrays = Arrays::filled_with(MARK, INTEGER_MARK);
+    pool::fill(other, other, &mut arrays.lent_mut(whole()));
     write_given(rt, other, call, pool, lengths)?;
-    let given = with_marks(pool);
-    let filled = answer_on(
-        rt,
-        call,
-        given,
-        claims,
-        lengths,
-        &mut low_significands,
-        &mut high_significands,
-        &mut low_exponents,
-        &mut high_exponents,
-    )?;
-    write_wrong_head(rt, filled.head, head_after(given, filled.refusal))?;
-    write_store(
-        rt,
-        call,
-        lengths,
-        &low_significands,
-        &high_significands,
-        &low_exponents,
-        &high_exponents,
-    )
+    let given = Given::marked(pool);
+    let ended = answer(rt, call, given, claims, &mut arrays.lent_mut(lengths))?;
+    write_wrong_head(rt, ended.head, given.head_after(ended.answer))?;
+    write_store(rt, call, lengths, &arrays.lent(whole()))
 }
 
 // On the first places of marked arrays.
@@ -539,20 +235,13 @@ pub fn beyond(call: Call) -> u32 {
     }
 }
 
-fn alike(length: usize) -> Lengths {
-    Lengths(length, length, length, length)
-}
-
-pub fn whole() -> Lengths {
-    alike(LARGE_PLACES)
-}
-
 // Enough places for a pool that the call accepts.
 fn ample(call: Call, pool: Pool) -> Lengths {
-    if (64 < pool.assets) & (pool.assets < beyond(call)) {
-        return whole();
+    if 64 < pool.assets && pool.assets < beyond(call) {
+        whole()
+    } else {
+        alike(PLACES)
     }
-    alike(PLACES)
 }
 
 // On enough places of marked arrays.
@@ -560,37 +249,46 @@ pub fn run_ample(rt: &impl Print, call: Call, pool: Pool) -> io::Result<()> {
     run(rt, call, pool, ample(call, pool))
 }
 
-// On enough places of arrays that hold another pool's store.
-pub fn run_over(rt: &impl Print, other: Pool, call: Call, pool: Pool) -> io::Result<()> {
-    if other.assets > 64 {
-        run_on(rt, other, call, pool, &[], whole())
-    } else {
-        run_on(rt, other, call, pool, &[], ample(call, pool))
+// The same of each pool, by assets, probability and correlation.
+pub fn run_each(rt: &impl Print, call: Call, pools: &[(u32, u32, u32)]) -> io::Result<()> {
+    for (assets, probability, correlation) in pools {
+        run_ample(rt, call, pool_of(*assets, *probability, *correlation))?;
     }
+    Ok(())
 }
 
-fn write_filled(rt: &impl Print, pool: Pool, k: u32, low_significands: &[u32]) -> io::Result<()> {
-    write_given(rt, pool, Call::Row(k), pool, whole())?;
-    write_row(rt, pool::row(pool.assets, k, low_significands))?;
-    write(rt, b"\n")
+// Pools, by assets, probability and correlation, and a tranche of each, by recovery and attachments.
+pub fn run_losses(
+    rt: &impl Print,
+    library: Library,
+    cases: &[((u32, u32, u32), (u32, u32, u32))],
+) -> io::Result<()> {
+    for ((assets, probability, correlation), (recovery, lower, upper)) in cases {
+        let tranche = tranche_of(*recovery, *lower, *upper);
+        let pool = pool_of(*assets, *probability, *correlation);
+        run_ample(rt, Call::Loss(library, tranche), pool)?;
+    }
+    Ok(())
+}
+
+// On enough places of arrays that hold another pool's store.
+pub fn run_over(rt: &impl Print, other: Pool, call: Call, pool: Pool) -> io::Result<()> {
+    let lengths = if other.assets > 64 {
+        whole()
+    } else {
+        ample(call, pool)
+    };
+    run_on(rt, other, call, pool, &[], lengths)
 }
 
 // The first rows of the pool's own store.
 pub fn filled_rows(rt: &impl Print, pool: Pool, count: u32) -> io::Result<()> {
-    let mut low_significands = [MARK; LARGE_PLACES];
-    let mut high_significands = [MARK; LARGE_PLACES];
-    let mut low_exponents = [INTEGER_MARK; LARGE_PLACES];
-    let mut high_exponents = [INTEGER_MARK; LARGE_PLACES];
-    pool::fill(
-        pool,
-        pool,
-        &mut low_significands,
-        &mut high_significands,
-        &mut low_exponents,
-        &mut high_exponents,
-    );
+    let mut arrays = Arrays::filled_with(MARK, INTEGER_MARK);
+    pool::fill(pool, pool, &mut arrays.lent_mut(whole()));
     for k in 0..count {
-        write_filled(rt, pool, k, &low_significands)?;
+        write_given(rt, pool, Call::Row(k), pool, whole())?;
+        write_row(rt, pool::row(pool.assets, k, &arrays.low_significands))?;
+        println!(rt; "")?;
     }
     Ok(())
 }
@@ -598,20 +296,16 @@ pub fn filled_rows(rt: &impl Print, pool: Pool, count: u32) -> io::Result<()> {
 // Each place holds its own number.
 fn numbered() -> [u32; LARGE_PLACES] {
     let mut places = [0u32; LARGE_PLACES];
-    for i in 0..LARGE_PLACES {
-        places[i] = i as u32;
+    for (place, i) in places.iter_mut().zip(0..) {
+        *place = i;
     }
     places
 }
 
 pub fn row(rt: &impl Print, n: u32, k: u32, length: usize) -> io::Result<()> {
-    let mut places = numbered();
-    write(rt, b"row")?;
-    write_field(rt, n)?;
-    write_field(rt, k)?;
-    write(rt, b" length")?;
-    write_length(rt, length)?;
-    let part = first_naturals(&mut places, length);
-    write_refusal(rt, pool::row_refusal(n, k, part))?;
-    write_part(rt, pool::row(n, k, part))
+    let places = numbered();
+    let lent = first(&places, length);
+    print!(rt; "row {n} {k} length {length}")?;
+    write_outcome(rt, pool::row_refusal(n, k, lent))?;
+    write_part(rt, pool::row(n, k, lent))
 }

@@ -3,8 +3,8 @@
 #![tactic(auto)]
 
 use std::io;
-use trial_inputs::random::{Calls, random_cases};
+use trial_inputs::random::{library_case, random_cases};
 
 fn main(rt: HostRuntime) -> io::Result<()> {
-    random_cases(&rt, 300, Calls::Library)
+    random_cases(300, |word| library_case(&rt, word))
 }

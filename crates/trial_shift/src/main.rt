@@ -3,10 +3,10 @@
 #![tactic(auto)]
 
 use std::io;
-use trial_inputs::edges::{List, list_corners, lists};
-use trial_inputs::random::{Calls, random_cases};
-use trial_lines::{Call, LARGE_ROWS, pool_of};
-use trial_pool::{run, whole};
+use trial_inputs::edges::{corners, lists};
+use trial_inputs::random::{random_cases, shifts_case};
+use trial_lines::{Call, LARGE_ROWS, ROWS, pool_of, whole};
+use trial_pool::run;
 
 // With places for 100 assets.
 fn large(rt: &impl Print, assets: u32) -> io::Result<()> {
@@ -15,13 +15,12 @@ fn large(rt: &impl Print, assets: u32) -> io::Result<()> {
 }
 
 fn main(rt: HostRuntime) -> io::Result<()> {
-    lists(&rt, List::Shifts)?;
-    list_corners(&rt, List::Shifts, 1)?;
-    list_corners(&rt, List::Shifts, 2)?;
-    list_corners(&rt, List::Shifts, 64)?;
-    large(&rt, 64)?;
-    large(&rt, 65)?;
-    large(&rt, 100)?;
-    large(&rt, 101)?;
-    random_cases(&rt, 300, Calls::Shifts)
+    lists(&rt, Call::Shifts(ROWS))?;
+    for assets in [1, 2, 64] {
+        corners(&rt, Call::Shifts(ROWS), assets)?;
+    }
+    for assets in [64, 65, 100, 101] {
+        large(&rt, assets)?;
+    }
+    random_cases(300, |word| shifts_case(&rt, word))
 }

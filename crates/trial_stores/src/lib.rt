@@ -15,52 +15,33 @@ mod marks;
 mod reading;
 
 use filling::run_call;
-use marks::{Marks, put_integers, put_naturals};
+use marks::{Marks, integer, natural};
 use pool::Pool;
 use reading::run_read;
-pub use reading::{first_integers, first_naturals};
 use std::io;
 use trial_inputs::given::{read_length, read_pool};
-use trial_lines::{Call, LARGE_PLACES, write_length, write_store};
-use trial_pool::whole;
-use trial_support::{read_number, write, write_field};
+use trial_lines::{Call, whole, write_store};
+use trial_pool::arrays::Arrays;
+use trial_support::read_number;
 
 pub fn read_head(rt: &impl Input, held: Pool) -> io::Result<Pool> {
-    if read_number(rt)? == 0 {
-        return Ok(held);
+    match read_number(rt)? {
+        0 => Ok(held),
+        _ => read_pool(rt),
     }
-    read_pool(rt)
 }
 
-fn run_marks(
-    rt: &(impl Input + Print),
-    low_significands: &mut [u32; LARGE_PLACES],
-    high_significands: &mut [u32; LARGE_PLACES],
-    low_exponents: &mut [i32; LARGE_PLACES],
-    high_exponents: &mut [i32; LARGE_PLACES],
-) -> io::Result<()> {
+fn run_marks(rt: &(impl Input + Print), arrays: &mut Arrays) -> io::Result<()> {
     let seed = read_number(rt)?;
     let from = read_length(rt)?;
     let to = read_length(rt)?;
     let marks = Marks { seed, from, to };
-    put_naturals(marks, 0, low_significands);
-    put_naturals(marks, 1, high_significands);
-    put_integers(marks, 2, low_exponents);
-    put_integers(marks, 3, high_exponents);
-    write(rt, b"marks")?;
-    write_field(rt, seed)?;
-    write(rt, b" but")?;
-    write_length(rt, from)?;
-    write_length(rt, to)?;
-    write_store(
-        rt,
-        Call::Fill,
-        whole(),
-        low_significands,
-        high_significands,
-        low_exponents,
-        high_exponents,
-    )
+    marks.put(0, &mut arrays.low_significands, natural);
+    marks.put(1, &mut arrays.high_significands, natural);
+    marks.put(2, &mut arrays.low_exponents, integer);
+    marks.put(3, &mut arrays.high_exponents, integer);
+    print!(rt; "marks {seed} but {from} {to}")?;
+    write_store(rt, Call::Fill, whole(), &arrays.lent(whole()))
 }
 
 // Runs a step of a kind, and gives the head of the store after it.
@@ -68,38 +49,12 @@ pub fn run_step(
     rt: &(impl Input + Print),
     kind: u32,
     head: Pool,
-    low_significands: &mut [u32; LARGE_PLACES],
-    high_significands: &mut [u32; LARGE_PLACES],
-    low_exponents: &mut [i32; LARGE_PLACES],
-    high_exponents: &mut [i32; LARGE_PLACES],
+    arrays: &mut Arrays,
 ) -> io::Result<Pool> {
-    if kind == 1 {
-        return run_call(
-            rt,
-            head,
-            low_significands,
-            high_significands,
-            low_exponents,
-            high_exponents,
-        );
-    }
-    if kind == 0 {
-        run_marks(
-            rt,
-            low_significands,
-            high_significands,
-            low_exponents,
-            high_exponents,
-        )?;
-    } else {
-        run_read(
-            rt,
-            head,
-            low_significands,
-            high_significands,
-            low_exponents,
-            high_exponents,
-        )?;
+    match kind {
+        0 => run_marks(rt, arrays)?,
+        1 => return run_call(rt, head, arrays),
+        _ => run_read(rt, head, arrays)?,
     }
     Ok(head)
 }

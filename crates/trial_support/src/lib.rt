@@ -1,57 +1,18 @@
-// What the test programs share: printing, reading numbers, random words, checksums, kept numbers from their parts.
+// What the test programs share: reading numbers, random words, checksums, the number of a refusal, kept numbers from their parts.
 #![tactic(auto)]
 
-ghost use Rattle.std.specs.Prelude.{◌≡◌, nat_abs};
 ghost use Rattle.kept.specs.Rounding.{Operand};
 
+use grounds::Refusal;
 use kept::Kept;
 use std::io;
 use std::io::Read;
 
 // One more than the digits of the largest u32.
-const BYTES: u32 = 11;
+const DIGITS: u32 = 11;
 
-pub fn write(rt: &impl Print, text: &[u8]) -> io::Result<()> {
-    rt.write_all(text)
-}
-
-pub fn write_number(rt: &impl Print, n: u64) -> io::Result<()> {
-    rt.print(n)
-}
-
-pub fn write_field(rt: &impl Print, n: u32) -> io::Result<()> {
-    write(rt, b" ")?;
-    write_number(rt, n as u64)
-}
-
-// As many hexadecimal digits as a word has, 16.
-pub fn write_word(rt: &impl Print, word: u64) -> io::Result<()> {
-    print!(rt; "{word:016x}")
-}
-
-pub fn magnitude(n: i32) -> u64
-    ensures { result ≡ nat_abs n }
-{
-    let wide = n as i64;
-    if wide < 0 {
-        (0 - wide) as u64
-    } else {
-        wide as u64
-    }
-}
-
-pub fn write_integer(rt: &impl Print, n: i32) -> io::Result<()> {
-    rt.print(n)
-}
-
-// The bits of an f64, or 0 where it is not a number.
-pub fn bits(x: f64) -> u64 {
-    if x == x { f64::to_bits(x) } else { 0 }
-}
-
-pub fn write_bits(rt: &impl Print, x: f64) -> io::Result<()> {
-    write_word(rt, bits(x))
-}
+// The word that random words and checksums start from.
+pub const START: u64 = 0x9e37_79b9_7f4a_7c15;
 
 // The next byte, or a newline behind the last.
 fn read_byte(input: &mut impl Read) -> io::Result<u8> {
@@ -63,33 +24,50 @@ fn read_byte(input: &mut impl Read) -> io::Result<u8> {
 // The number up to the next byte that is no digit.
 pub fn read_number(rt: &impl Input) -> io::Result<u32> {
     let mut input = rt.reader();
-    let mut number: u64 = 0;
-    for _ in 0..BYTES {
+    let mut number = 0u32;
+    for _ in 0..DIGITS {
         let byte = read_byte(&mut input)?;
-        if byte < b'0' {
-            return Ok(number as u32);
+        if !byte.is_ascii_digit() {
+            break;
         }
-        if byte > b'9' {
-            return Ok(number as u32);
-        }
-        number = (number * 10 + (byte - b'0') as u64) % 0x1_0000_0000;
+        number = number.wrapping_mul(10).wrapping_add(u32::from(byte - b'0'));
     }
-    Ok(number as u32)
+    Ok(number)
+}
+
+// The first places of a slice, as many as asked for or as there are.
+pub fn first<T>(places: &[T], count: usize) -> &[T] {
+    &places[..count.min(places.len())]
+}
+
+pub fn first_mut<T>(places: &mut [T], count: usize) -> &mut [T] {
+    let count = count.min(places.len());
+    &mut places[..count]
+}
+
+// The number of a call's refusal, 0 of an answer.
+pub fn refusal_number<T: Copy>(outcome: Result<T, Refusal>) -> u32 {
+    outcome.err().map_or(0, u32::from)
+}
+
+// The bits of an f64, or 0 where it is not a number.
+pub fn bits(x: f64) -> u64 {
+    if x == x { x.to_bits() } else { 0 }
 }
 
 // The kept number with this significand and this exponent, or zero where they make no operand.
+#[tactic(auto, unfolding(kept::specs::Rounding::nought), using(kept::specs::Rounding::Laws::nought_kept))]
 pub fn operand(significand: u32, exponent: i32) -> Kept
     ensures { Operand result }
 {
-    if significand >= 0x8000_0000 {
-        if magnitude(exponent) <= 1_000_000_000 {
-            return Kept {
-                significand,
-                exponent,
-            };
+    if significand >= 0x8000_0000 && exponent.unsigned_abs() <= 1_000_000_000 {
+        Kept {
+            significand,
+            exponent,
         }
+    } else {
+        Kept::zero()
     }
-    Kept::zero()
 }
 
 // The next of a row of random words.
@@ -99,30 +77,31 @@ pub fn next(word: u64) -> u64 {
     b ^ (b << 17)
 }
 
-fn with_natural(sum: u64, n: u32) -> u64 {
-    next(sum ^ n as u64)
+// A number that a checksum is made of.
+pub trait Summed: Copy {
+    // The checksum with this number behind the others.
+    fn after(self, sum: u64) -> u64;
 }
 
-fn with_integer(sum: u64, n: i32) -> u64 {
-    let below: u64 = if n < 0 { 1 } else { 0 };
-    next(next(sum ^ below) ^ magnitude(n))
-}
-
-// A word that depends on every number and on its place: the naturals, then the integers.
-fn checksum(naturals: &[u32], integers: &[i32]) -> u64 {
-    let mut sum: u64 = 0x9e37_79b9_7f4a_7c15;
-    let count = naturals.len();
-    for i in 0..count + integers.len() {
-        sum = if i < count {
-            with_natural(sum, naturals[i])
-        } else {
-            with_integer(sum, integers[i - count])
-        };
+impl Summed for u8 {
+    fn after(self, sum: u64) -> u64 {
+        next(sum ^ u64::from(self))
     }
-    sum
 }
 
-pub fn write_checksum(rt: &impl Print, naturals: &[u32], integers: &[i32]) -> io::Result<()> {
-    write(rt, b" ")?;
-    write_word(rt, checksum(naturals, integers))
+impl Summed for u32 {
+    fn after(self, sum: u64) -> u64 {
+        next(sum ^ u64::from(self))
+    }
+}
+
+impl Summed for i32 {
+    fn after(self, sum: u64) -> u64 {
+        next(next(sum ^ u64::from(self < 0)) ^ u64::from(self.unsigned_abs()))
+    }
+}
+
+// A word that depends on another, on every number and on its place.
+pub fn checksum<T: Summed>(start: u64, numbers: &[T]) -> u64 {
+    numbers.iter().fold(start, |sum, n| n.after(sum))
 }

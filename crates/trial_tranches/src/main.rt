@@ -3,17 +3,17 @@
 // for each case. tools/trial_tranches.py works the same lines out in exact whole numbers.
 #![tactic(auto)]
 
-ghost use Rattle.std.specs.Prelude.{◌≤◌};
+ghost use Rattle.std.specs.Prelude.{◌≤◌, ◌<◌};
 
 use pool::{Pool, TRANCHES, Tranche};
 use std::io;
 use trial_inputs::edges::{exact_lengths, longer_lengths, over_others};
-use trial_inputs::random::{Calls, random_cases};
-use trial_lines::tranches::{
-    Records, Tranches, array_of, refused_tranche, repeated, spread, tranche_of, with,
-};
-use trial_lines::{Call, Lengths, Library, pool_of};
-use trial_pool::{run, run_ample, run_over};
+use trial_inputs::random::{losses_case, random_cases};
+use trial_lines::tranches::{REFUSED, Tranches, spread, tranche_of};
+use trial_lines::{Call, Library, alike, pool_of};
+use trial_pool::{run, run_ample, run_each, run_over};
+
+type Records = [Tranche; TRANCHES];
 
 fn losses(library: Library, count: u32, records: Records) -> Call {
     Call::Losses(library, Tranches { count, records })
@@ -34,17 +34,12 @@ fn without_places(
     records: Records,
     pool: Pool,
 ) -> io::Result<()> {
-    run(
-        rt,
-        losses(library, count, records),
-        pool,
-        Lengths(0, 0, 0, 0),
-    )
+    run(rt, losses(library, count, records), pool, alike(0))
 }
 
 // For 64 assets, probability 1 and correlation 0: four losses around 2^−800, one far below it twice, one far above it, and 0.
 fn faint() -> Records {
-    Records(
+    [
         tranche_of(0, 9_999, 10_000),
         tranche_of(4_786, 4_905, 6_699),
         tranche_of(0, 0, 10_000),
@@ -53,35 +48,44 @@ fn faint() -> Records {
         tranche_of(2_845, 6_731, 9_192),
         tranche_of(0, 9_999, 10_000),
         tranche_of(3_023, 6_563, 8_978),
-    )
+    ]
 }
 
-// A tranche that one ground refuses.
-fn by_4() -> Tranche {
-    tranche_of(10_001, 0, 10_000)
-}
-
-fn by_5() -> Tranche {
-    tranche_of(4_000, 0, 10_001)
-}
-
-fn by_6() -> Tranche {
-    tranche_of(4_000, 3_000, 3_000)
-}
+// Tranches that one ground refuses: 4, then 5, then 6.
+const BY_ONE: [Tranche; 3] = [
+    Tranche {
+        recovery: 10_001,
+        lower: 0,
+        upper: 10_000,
+    },
+    Tranche {
+        recovery: 4_000,
+        lower: 0,
+        upper: 10_001,
+    },
+    Tranche {
+        recovery: 4_000,
+        lower: 3_000,
+        upper: 3_000,
+    },
+];
 
 // ---- counts
 
 fn counts(rt: &impl Print, library: Library) -> io::Result<()> {
-    three(rt, library, 0, spread())?;
-    three(rt, library, 1, spread())?;
-    three(rt, library, 2, spread())?;
-    three(rt, library, 7, spread())?;
-    three(rt, library, 8, spread())?;
-    three(rt, library, 9, spread())?;
-    three(rt, library, 0xffff_ffff, spread())
+    for count in [0, 1, 2, 7, 8, 9, 0xffff_ffff] {
+        three(rt, library, count, spread())?;
+    }
+    Ok(())
 }
 
 // ---- a ground at each place
+
+fn put(records: &mut [Tranche; TRANCHES], place: usize, tranche: Tranche) {
+    if let Some(record) = records.get_mut(place) {
+        *record = tranche;
+    }
+}
 
 fn at_place(
     rt: &impl Print,
@@ -90,7 +94,9 @@ fn at_place(
     place: usize,
     tranche: Tranche,
 ) -> io::Result<()> {
-    three(rt, library, count, with(spread(), place, tranche))
+    let mut records = spread();
+    put(&mut records, place, tranche);
+    three(rt, library, count, records)
 }
 
 fn each_place(rt: &impl Print, library: Library, count: u32, tranche: Tranche) -> io::Result<()> {
@@ -109,9 +115,9 @@ fn wrong_places(rt: &impl Print, library: Library, tranche: Tranche) -> io::Resu
 
 // Each ground on both sides of its edge.
 fn places(rt: &impl Print, library: Library) -> io::Result<()> {
-    wrong_places(rt, library, by_4())?;
-    wrong_places(rt, library, by_5())?;
-    wrong_places(rt, library, by_6())?;
+    for tranche in BY_ONE {
+        wrong_places(rt, library, tranche)?;
+    }
     wrong_places(rt, library, tranche_of(4_000, 3_001, 3_000))?;
     each_place(rt, library, 8, tranche_of(10_000, 0, 10_000))?;
     each_place(rt, library, 8, tranche_of(0, 9_999, 10_000))?;
@@ -122,11 +128,16 @@ fn places(rt: &impl Print, library: Library) -> io::Result<()> {
 
 fn two_in_one(rt: &impl Print, library: Library, place: usize) -> io::Result<()> {
     let most = 0xffff_ffff;
-    at_place(rt, library, 8, place, tranche_of(10_001, 0, 10_001))?;
-    at_place(rt, library, 8, place, tranche_of(10_001, 3_000, 3_000))?;
-    at_place(rt, library, 8, place, tranche_of(4_000, 10_001, 10_001))?;
-    at_place(rt, library, 8, place, refused_tranche())?;
-    at_place(rt, library, 8, place, tranche_of(most, most, most))
+    for tranche in [
+        tranche_of(10_001, 0, 10_001),
+        tranche_of(10_001, 3_000, 3_000),
+        tranche_of(4_000, 10_001, 10_001),
+        REFUSED,
+        tranche_of(most, most, most),
+    ] {
+        at_place(rt, library, 8, place, tranche)?;
+    }
+    Ok(())
 }
 
 // One tranche, and another behind it by each ground.
@@ -137,16 +148,20 @@ fn before_each(
     first: usize,
     second: usize,
 ) -> io::Result<()> {
-    let records = with(spread(), first, tranche);
-    three(rt, library, 8, with(records, second, by_4()))?;
-    three(rt, library, 8, with(records, second, by_5()))?;
-    three(rt, library, 8, with(records, second, by_6()))
+    let mut records = spread();
+    put(&mut records, first, tranche);
+    for other in BY_ONE {
+        put(&mut records, second, other);
+        three(rt, library, 8, records)?;
+    }
+    Ok(())
 }
 
 fn two_places(rt: &impl Print, library: Library, first: usize, second: usize) -> io::Result<()> {
-    before_each(rt, library, by_4(), first, second)?;
-    before_each(rt, library, by_5(), first, second)?;
-    before_each(rt, library, by_6(), first, second)
+    for tranche in BY_ONE {
+        before_each(rt, library, tranche, first, second)?;
+    }
+    Ok(())
 }
 
 fn two_wrong(rt: &impl Print, library: Library) -> io::Result<()> {
@@ -162,7 +177,7 @@ fn two_wrong(rt: &impl Print, library: Library) -> io::Result<()> {
 
 // The count wrong, then also every tranche, and no places; every tranche wrong and no places; no places, also with a wrong count.
 fn order_in(rt: &impl Print, library: Library, pool: Pool) -> io::Result<()> {
-    let refused = repeated(refused_tranche());
+    let refused = [REFUSED; TRANCHES];
     run_ample(rt, losses(library, 0, spread()), pool)?;
     run_ample(rt, losses(library, 9, spread()), pool)?;
     without_places(rt, library, 0, refused, pool)?;
@@ -176,22 +191,29 @@ fn order_in(rt: &impl Print, library: Library, pool: Pool) -> io::Result<()> {
 fn order_of(rt: &impl Print, library: Library, tranche: Tranche) -> io::Result<()> {
     at_place(rt, library, 0, 0, tranche)?;
     at_place(rt, library, 9, 0, tranche)?;
-    without_places(rt, library, 8, with(spread(), 7, tranche), pool(3))
+    let mut records = spread();
+    records[7] = tranche;
+    without_places(rt, library, 8, records, pool(3))
 }
 
 fn order(rt: &impl Print, library: Library) -> io::Result<()> {
-    order_in(rt, library, pool(0))?;
-    order_in(rt, library, pool(101))?;
-    order_in(rt, library, pool(21))?;
-    order_in(rt, library, pool_of(64, 1_000, 10_000))?;
-    order_in(rt, library, pool_of(3, 10_001, 3_000))?;
-    order_in(rt, library, pool_of(3, 1_000, 10_001))?;
-    order_in(rt, library, pool_of(3, 1_000, 10_000))?;
-    order_in(rt, library, pool_of(0, 10_001, 10_001))?;
-    order_in(rt, library, pool(3))?;
-    order_of(rt, library, by_4())?;
-    order_of(rt, library, by_5())?;
-    order_of(rt, library, by_6())
+    for (assets, probability, correlation) in [
+        (0, 1_000, 3_000),
+        (101, 1_000, 3_000),
+        (21, 1_000, 3_000),
+        (64, 1_000, 10_000),
+        (3, 10_001, 3_000),
+        (3, 1_000, 10_001),
+        (3, 1_000, 10_000),
+        (0, 10_001, 10_001),
+        (3, 1_000, 3_000),
+    ] {
+        order_in(rt, library, pool_of(assets, probability, correlation))?;
+    }
+    for tranche in BY_ONE {
+        order_of(rt, library, tranche)?;
+    }
+    Ok(())
 }
 
 // ---- lengths of the store
@@ -212,50 +234,52 @@ fn lengths(
     longer_lengths(rt, call, pool(assets), exact)?;
     over_others(rt, call, pool(assets))?;
     run_over(rt, other, losses(library, 9, spread()), pool(assets))?;
-    run_over(
-        rt,
-        other,
-        losses(library, 8, with(spread(), 7, by_6())),
-        pool(assets),
-    )
+    let mut records = spread();
+    records[7] = BY_ONE[2];
+    run_over(rt, other, losses(library, 8, records), pool(assets))
 }
 
 // ---- pools and orders
 
 fn pools(rt: &impl Print, library: Library, assets: u32) -> io::Result<()> {
-    let call = losses(library, 8, spread());
-    run_ample(rt, call, pool(assets))?;
-    run_ample(rt, call, pool_of(assets, 0, 0))?;
-    run_ample(rt, call, pool_of(assets, 0, 10_000))?;
-    run_ample(rt, call, pool_of(assets, 1, 1))?;
-    run_ample(rt, call, pool_of(assets, 5_000, 0))?;
-    run_ample(rt, call, pool_of(assets, 5_000, 10_000))?;
-    run_ample(rt, call, pool_of(assets, 10_000, 1))?;
-    run_ample(rt, call, pool_of(assets, 10_000, 10_000))?;
-    run_ample(rt, losses(library, 8, faint()), pool_of(assets, 1, 0))?;
-    run_ample(rt, losses(library, 8, faint()), pool(assets))
+    run_each(
+        rt,
+        losses(library, 8, spread()),
+        &[
+            (assets, 1_000, 3_000),
+            (assets, 0, 0),
+            (assets, 0, 10_000),
+            (assets, 1, 1),
+            (assets, 5_000, 0),
+            (assets, 5_000, 10_000),
+            (assets, 10_000, 1),
+            (assets, 10_000, 10_000),
+        ],
+    )?;
+    run_each(
+        rt,
+        losses(library, 8, faint()),
+        &[(assets, 1, 0), (assets, 1_000, 3_000)],
+    )
 }
 
 fn all_pools(rt: &impl Print, library: Library) -> io::Result<()> {
-    pools(rt, library, 1)?;
-    pools(rt, library, 3)?;
-    pools(rt, library, 20)?;
-    pools(rt, library, 21)?;
-    pools(rt, library, 64)
+    for assets in [1, 3, 20, 21, 64] {
+        pools(rt, library, assets)?;
+    }
+    Ok(())
 }
 
 fn reversed(records: Records) -> Records {
-    let array = array_of(records);
-    Records(
-        array[7], array[6], array[5], array[4], array[3], array[2], array[1], array[0],
-    )
+    let mut changed = records;
+    changed.reverse();
+    changed
 }
 
 fn rotated(records: Records) -> Records {
-    let array = array_of(records);
-    Records(
-        array[3], array[4], array[5], array[6], array[7], array[0], array[1], array[2],
-    )
+    let mut changed = records;
+    changed.rotate_left(3);
+    changed
 }
 
 // The same tranches in three orders; then one of them at every place.
@@ -263,7 +287,7 @@ fn orders(rt: &impl Print, library: Library, records: Records, pool: Pool) -> io
     run_ample(rt, losses(library, 8, records), pool)?;
     run_ample(rt, losses(library, 8, reversed(records)), pool)?;
     run_ample(rt, losses(library, 8, rotated(records)), pool)?;
-    run_ample(rt, losses(library, 8, repeated(records.0)), pool)
+    run_ample(rt, losses(library, 8, [records[0]; TRANCHES]), pool)
 }
 
 fn all_orders(rt: &impl Print, library: Library) -> io::Result<()> {
@@ -276,11 +300,10 @@ fn all_orders(rt: &impl Print, library: Library) -> io::Result<()> {
 
 // Each count twice, the second time with records past it that would be refused.
 fn past(rt: &impl Print, library: Library) -> io::Result<()> {
-    let refused = refused_tranche();
     let mut records = spread();
     for i in 1..TRANCHES {
         let count = TRANCHES - i;
-        records = with(records, count, refused);
+        records[count] = REFUSED;
         three(rt, library, count as u32, spread())?;
         three(rt, library, count as u32, records)?;
     }
@@ -298,9 +321,9 @@ fn cases(rt: &impl Print, library: Library) -> io::Result<()> {
 }
 
 fn main(rt: HostRuntime) -> io::Result<()> {
-    cases(&rt, Library::Pool)?;
-    cases(&rt, Library::Screen)?;
-    cases(&rt, Library::BetaBinomial)?;
+    for library in [Library::Pool, Library::Screen, Library::BetaBinomial] {
+        cases(&rt, library)?;
+    }
     lengths(&rt, Library::Pool, 1, 3, 2)?;
     lengths(&rt, Library::Pool, 3, 10, 9)?;
     lengths(&rt, Library::Pool, 20, 231, 230)?;
@@ -308,5 +331,5 @@ fn main(rt: HostRuntime) -> io::Result<()> {
     lengths(&rt, Library::Screen, 1, 3, 2)?;
     lengths(&rt, Library::Screen, 20, 231, 230)?;
     lengths(&rt, Library::Screen, 21, 253, 252)?;
-    random_cases(&rt, 150, Calls::Losses)
+    random_cases(150, |word| losses_case(&rt, word))
 }

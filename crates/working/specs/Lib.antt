@@ -1,3 +1,4 @@
 pub mod Working
 pub mod Slices
 pub mod Cases
+pub mod Lent

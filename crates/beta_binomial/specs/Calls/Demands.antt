@@ -7,9 +7,10 @@ use Rattle.steps.specs.declared.Tranche.{Tranche}
 use Rattle.steps.specs.Inputs.{up_to, largest_pool, fine_pool, distance_for}
 use Rattle.working.proofs.Slices.Laws.{entries_kept, entries_length, entries_later}
 use Rattle.grounds.specs.Grounds.Laws.{beta_column_accepted}
-use Rattle.expected_losses.specs.declared.Answer.{Answer}
+use Rattle.pool.specs.declared.losses.Answer.{Answer}
+use Rattle.grounds.specs.Refusals.{refusal_number}
 use Rattle.expected_losses.specs.Loss.{losses_in}
-use Rattle.store.specs.declared.Pool.{Pool}
+use Rattle.steps.specs.declared.Pool.{Pool}
 use Rattle.pool.specs.Demands.{parts_for, BetaRowDemands, BetaColumnDemands, BetaTranchesDemands}
 use Rattle.pool.proofs.Demands.Theorems.{bounds_meet, steps_meet, rows_meet, losses_meet}
 use Rattle.beta_binomial.specs.Calls.{HoldsBeta, beta_column_refusal, BetaPrints, beta_loss_refusal, BetaReplies}
@@ -32,7 +33,7 @@ beta_column_meets {pool} {units} prints =
     }
 
 pub beta_tranches_meet : {pool : Pool} {tranches : List Tranche} {count : ℕ} (answer : Answer) → length tranches ≡ 8
-    → BetaReplies pool tranches count answer.refusal (losses_in answer.losses) → BetaTranchesDemands pool tranches count answer
+    → BetaReplies pool tranches count (refusal_number answer.outcome) (losses_in answer.losses) → BetaTranchesDemands pool tranches count answer
 unfolding beta_loss_refusal largest_pool up_to fine_pool distance_for parts_for
 beta_tranches_meet answer eight replies = record {
   number = replies.refusal_is;

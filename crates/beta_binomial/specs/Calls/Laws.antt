@@ -20,7 +20,7 @@ use Rattle.chances.specs.Chances.{OnSides}
 use Rattle.expected_losses.specs.Loss.{TranchesReady}
 use Rattle.chances.specs.Chances.Ready.{column_ready}
 use Rattle.expected_losses.specs.Loss.Ready.{tranches_ready}
-use Rattle.store.specs.declared.Pool.{Pool}
+use Rattle.steps.specs.declared.Pool.{Pool}
 use Rattle.pool.specs.Calls.Laws.{reply_once}
 use Rattle.beta_binomial.specs.Calls.{HoldsBeta, beta_loss_refusal, BetaReplies}
 

@@ -1,16 +1,7 @@
 -- `first_to_fail` meets its contract.
 use Rattle.std.proofs.Common.{arith, sym, ◌∙◌}
-use Rattle.steps.specs.Inputs.{working_assets}
 use Rattle.claims.specs.Check.Laws.{rows_none, row_more, row_fails, rows_all}
 use Rattle.claims.proofs.first_to_fail.Goals as goal
-
-pub bounds-low-k : goal.bounds-low-k
-unfolding working_assets
-bounds-low-k c = omega arith
-
-pub bounds-high-k : goal.bounds-high-k
-unfolding working_assets
-bounds-high-k c = omega arith
 
 pub loop-k-init : goal.loop-k-init
 loop-k-init c = rows_none c.requires

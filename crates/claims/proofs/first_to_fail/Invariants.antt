@@ -3,4 +3,4 @@ use Rattle.claims.specs.Check.Laws.{RowsBelow}
 use Rattle.claims.proofs.first_to_fail.Given as goal
 
 abbrev pub invariant-loop-k : goal.invariant-loop-k
-invariant-loop-k l = RowsBelow l.n l.low l.high l.claims l.k
+invariant-loop-k l = RowsBelow l.n l.chances.low l.chances.high l.claims l.k

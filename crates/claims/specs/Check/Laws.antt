@@ -11,9 +11,7 @@ use Rattle.kept.specs.declared.Kept.{Kept}
 use Rattle.kept.specs.declared.Side.{Side}
 use Rattle.kept.specs.declared.Side.TheVariants.{Low, High}
 use Rattle.steps.specs.Chances.{kept_chances}
-use Rattle.steps.specs.declared.Verdict.{Verdict}
-use Rattle.steps.specs.declared.Verdict.TheVariants.{Passed, Fails}
-use Rattle.steps.specs.Claims.{passes, first_to_fail, row_passes, verdict_on}
+use Rattle.steps.specs.Claims.{passes, first_to_fail, row_passes, verdict_on, VerdictAnswer, all_pass, fails_at}
 use Rattle.chances.specs.Chances.{ChancesMade, OnSides, Answerable}
 use Rattle.claims.specs.Check.{RowsReady, RowsChecked, CheckReady, Checked}
 
@@ -36,23 +34,23 @@ module _ {n : ℕ} {low high : List Kept} {claims : List ℕ} where
           rw (done.ready.chances.on_low.entry d k (omega arith), done.ready.chances.on_high.entry d k (omega arith)) (done.ready.answerable k l)
 
       row_left : (c : Side → ℕ → Kept) → OnSides n low high c → (t : Bool) → passes (get_or low k d) (get_or high k d) (get_or claims k 0) ≡ t
-          → verdict_on n c claims ≡ cond t (first_to_fail (row_passes c claims) (n - k) (suc k)) (Fails k)
+          → verdict_on n c claims ≡ cond t (first_to_fail (row_passes c claims) (n - k) (suc k)) (fails_at k)
       unfolding first_to_fail
       row_left c on t test =
           let one_less : suc n - k ≡ suc (n - k) = omega arith in
           let is : row_passes c claims k ≡ t = rw (on.on_low.entry d k (omega arith), on.on_high.entry d k (omega arith)) at test in
           done.left c on ∙ ap (λ m. first_to_fail (row_passes c claims) m k) one_less
-          ∙ ap (λ (u : Bool). cond u (first_to_fail (row_passes c claims) (n - k) (suc k)) (Fails k)) is
+          ∙ ap (λ (u : Bool). cond u (first_to_fail (row_passes c claims) (n - k) (suc k)) (fails_at k)) is
 
       pub row_more : passes (get_or low k d) (get_or high k d) (get_or claims k 0) ≡ true → RowsBelow n low high claims (k + 1)
       row_more passed =
           let rest : suc n - (k + 1) ≡ n - k = omega arith in
           record { ready = done.ready; within = omega arith; left = λ c on. row_left c on true passed ∙ rw (rest, add-one k) refl }
 
-      pub row_fails : passes (get_or low k d) (get_or high k d) (get_or claims k 0) ≡ false → RowsChecked n low high claims (Fails k)
+      pub row_fails : passes (get_or low k d) (get_or high k d) (get_or claims k 0) ≡ false → RowsChecked n low high claims (fails_at k)
       row_fails failed = record { verdict_is = λ c on. sym (row_left c on false failed) }
 
-    pub rows_all : k ≡ suc n → RowsChecked n low high claims Passed
+    pub rows_all : k ≡ suc n → RowsChecked n low high claims all_pass
     unfolding first_to_fail
     rows_all all =
         let none : suc n - k ≡ 0 = omega arith in
@@ -75,5 +73,5 @@ module _ {n : ℕ} {low high c h : List Kept} (of_low : ChancesMade Low n low c)
         claimed = ready.claimed;
       }
 
-  pub rows_checked : {claims : List ℕ} {verdict : Verdict} → RowsChecked n c h claims verdict → Checked n low high claims verdict
+  pub rows_checked : {claims : List ℕ} {verdict : VerdictAnswer} → RowsChecked n c h claims verdict → Checked n low high claims verdict
   rows_checked checked = record { verdict_is = λ entry on. checked.verdict_is _ (on_chances on) }

@@ -14,14 +14,12 @@ use Rattle.kept.specs.declared.Side.{Side}
 use Rattle.kept.specs.declared.Side.TheVariants.{Low, High}
 use Rattle.kept.specs.Whole.{whole_of}
 use Rattle.steps.specs.Column.{units_of_certainty, exact_units, half, to_nearest, AtMostApart}
-use Rattle.steps.specs.declared.Verdict.{Verdict}
-use Rattle.steps.specs.declared.Verdict.TheVariants.{Refused, Passed, Fails}
-use Rattle.steps.specs.Claims.{Passes, refusal_in, Means}
+use Rattle.steps.specs.Claims.{Passes, refusal_in, Means, VerdictAnswer, refused_by, all_pass, fails_at}
 use Rattle.steps.specs.Inputs.{largest_pool, up_to, fine_pool, distance_for}
 use Rattle.steps.specs.Promises.{RowEnclosed, HoldsVerdict}
 use Rattle.steps.proofs.CorrelatedBinomial.Theorems.{within}
 use Rattle.grounds.specs.Grounds.{column_grounds}
-use Rattle.store.specs.declared.Pool.{Pool}
+use Rattle.steps.specs.declared.Pool.{Pool}
 use Rattle.store.specs.Stores.{Store, lengths}
 use Rattle.store.proofs.Calls.Laws.{fills_accepted}
 use Rattle.pool.specs.Calls.{column_refusal}
@@ -66,11 +64,11 @@ nearest_meets Low x =
     ]
 
 -- The number of a refusal.
-refusal_meets : (verdict : Verdict) → refusal_in verdict ≡ refusal_of verdict
+refusal_meets : (verdict : VerdictAnswer) → refusal_in verdict ≡ refusal_of verdict
 unfolding refusal_in
-refusal_meets (Refused number) = refl
-refusal_meets Passed = refl
-refusal_meets (Fails k) = refl
+refusal_meets (refused_by number) = refl
+refusal_meets all_pass = refl
+refusal_meets (fails_at k) = refl
 
 apart_weaken : {off off' x y : Fraction} → AtMost off off' → AtMostApart off x y → AtMostApart off' x y
 apart_weaken l apart = record {
@@ -80,18 +78,18 @@ apart_weaken l apart = record {
 
 -- The verdict on the claims of any row, at the distances of the library.
 module _ {r : Chances} {c : Side → ℕ → Kept} {claims : List ℕ} {number : ℕ} (none : number ≡ 0) where
-  says_meets : (verdict : Verdict) → Means r.assets c claims number verdict → HoldsVerdict r c claims verdict → VerdictSays r.assets c (chance r) claims verdict
+  says_meets : (verdict : VerdictAnswer) → Means r.assets c claims number verdict → HoldsVerdict r c claims verdict → VerdictSays r.assets c (chance r) claims verdict
   unfolding units_of_certainty exact_units half one_half
-  says_meets (Refused refusal) means holds = absurd (means.some none)
-  says_meets Passed means holds = λ k l. passes_meet (means.every k l)
-  says_meets (Fails k) means holds = record {
+  says_meets (refused_by refusal) means holds = absurd (means.some none)
+  says_meets all_pass means holds = λ k l. passes_meet (means.every k l)
+  says_meets (fails_at k) means holds = record {
     row = means.within;
     fails = λ passed. means.fails (passes_of passed);
     before = λ i l. passes_meet (means.before i l);
     far = λ near. means.fails (holds.near_row k means.within (apart_of near));
   }
 
-  verdict_meets : (verdict : Verdict) → Complete r → RowEnclosed (distance_for r.assets) r c → Means r.assets c claims number verdict → HoldsVerdict r c claims verdict
+  verdict_meets : (verdict : VerdictAnswer) → Complete r → RowEnclosed (distance_for r.assets) r c → Means r.assets c claims number verdict → HoldsVerdict r c claims verdict
       → VerdictDemands r.assets c (chance r) claims verdict
   unfolding units_of_certainty exact_units half one_half
   verdict_meets verdict complete enclosed means holds = record {
@@ -104,7 +102,7 @@ module _ {r : Chances} {c : Side → ℕ → Kept} {claims : List ℕ} {number :
         apart_meets (apart_weaken (off_within r.assets (enclosed.chances l) (chance_at_most_one r complete l)) (holds.passed_row k l (passes_of passed)));
   }
 
-pub check_meets : {pool head head' : Pool} {claims : List ℕ} {before after : Store} {verdict : Verdict} → Checks pool head claims before after verdict head'
+pub check_meets : {pool head head' : Pool} {claims : List ℕ} {before after : Store} {verdict : VerdictAnswer} → Checks pool head claims before after verdict head'
     → CheckDemands pool head claims (slices before) (slices after) verdict head'
 unfolding defaults column_refusal column_grounds lengths largest_pool up_to fine_pool distance_for parts_for
 check_meets {verdict} checks =

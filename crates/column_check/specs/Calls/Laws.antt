@@ -9,10 +9,8 @@ use Rattle.model.specs.Chances.{Chances}
 use Rattle.model.specs.CorrelatedBinomial.{defaults}
 use Rattle.kept.specs.declared.Kept.{Kept}
 use Rattle.kept.specs.declared.Side.{Side}
-use Rattle.steps.specs.Claims.{refusal_in, verdict_on, verdict_after, Means}
+use Rattle.steps.specs.Claims.{refusal_in, verdict_on, verdict_after, Means, VerdictAnswer, refused_by}
 use Rattle.steps.proofs.Claims.Laws.{verdict_refused, verdict_number, verdict_means, verdict_alone}
-use Rattle.steps.specs.declared.Verdict.{Verdict}
-use Rattle.steps.specs.declared.Verdict.TheVariants.{Refused}
 use Rattle.steps.specs.Inputs.{largest_pool, InRange}
 use Rattle.steps.proofs.Inputs.Laws.{working_range}
 use Rattle.steps.specs.Promises.{RowEnclosed}
@@ -25,7 +23,7 @@ use Rattle.chances.specs.Chances.{OnSides}
 use Rattle.claims.specs.Check.{CheckReady}
 use Rattle.claims.specs.Check.Ready.{check_ready}
 use Rattle.grounds.specs.Grounds.{first_ground, fill_grounds, entries_ground, entries_grounds, column_grounds, FillAccepted}
-use Rattle.store.specs.declared.Pool.{Pool}
+use Rattle.steps.specs.declared.Pool.{Pool}
 use Rattle.store.specs.Stores.{Store, lengths, store_after}
 use Rattle.store.proofs.Calls.Laws.{fills_untouched, fills_filled, fills_once}
 use Rattle.pool.specs.Calls.{column_refusal}
@@ -35,16 +33,16 @@ use Rattle.column_check.specs.Calls.{ChecksRow, Checks}
 
 module _ {r : Chances} {c : Side → ℕ → Kept} {claims : List ℕ} where
   -- A refused call, and one that answers.
-  pub row_refused : {refusal number : ℕ} → (refusal ≡ 0 → ⊥) → refusal ≡ number → ChecksRow r c claims number (Refused refusal)
+  pub row_refused : {refusal number : ℕ} → (refusal ≡ 0 → ⊥) → refusal ≡ number → ChecksRow r c claims number (refused_by refusal)
   row_refused {refusal} {number} some is =
       let not_none : number ≡ 0 → ⊥ = λ none. some (is ∙ none) in
       record {
-        verdict_is = ap Refused is ∙ verdict_refused r.assets c claims number not_none;
+        verdict_is = ap refused_by is ∙ verdict_refused r.assets c claims number not_none;
         means = record { number_is = is; some = not_none };
         holds_verdict = λ none. absurd (not_none none);
       }
 
-  pub row_checked : {g number : ℕ} {verdict : Verdict} → RowEnclosed g r c → 0 ≡ number → verdict ≡ verdict_on r.assets c claims → ChecksRow r c claims number verdict
+  pub row_checked : {g number : ℕ} {verdict : VerdictAnswer} → RowEnclosed g r c → 0 ≡ number → verdict ≡ verdict_on r.assets c claims → ChecksRow r c claims number verdict
   unfolding verdict_after
   row_checked {verdict} enclosed none is = record {
     verdict_is = is ∙ ap (verdict_after r.assets c claims) none;
@@ -63,11 +61,11 @@ check_is_ready {n} range rows claimed =
 -- ---- the call
 
 module _ {pool head : Pool} {claims : List ℕ} {before : Store} where
-  pub checks_refused : {refusal : ℕ} → (refusal ≡ 0 → ⊥) → refusal ≡ column_refusal pool before claims → Checks pool head claims before before (Refused refusal) head
+  pub checks_refused : {refusal : ℕ} → (refusal ≡ 0 → ⊥) → refusal ≡ column_refusal pool before claims → Checks pool head claims before before (refused_by refusal) head
   unfolding refusal_in
   checks_refused some is = record { fills = fills_untouched some is; checks = row_refused some is }
 
-  pub checks_answered : {after : Store} {verdict : Verdict} {head' : Pool}
+  pub checks_answered : {after : Store} {verdict : VerdictAnswer} {head' : Pool}
       → FillAccepted largest_pool pool.assets pool.probability pool.correlation (lengths before) → 0 ≡ column_refusal pool before claims
       → after ≡ store_after pool.assets pool.probability pool.correlation 0 before
       → verdict ≡ verdict_on pool.assets (λ side. kept_defaults side pool.assets pool.probability pool.correlation) claims
@@ -103,7 +101,7 @@ refusal_alike pool s claims other alike =
     (short_alike pool.assets claims other alike)
 
 -- What meets the contract for the same inputs is the same, whatever stands behind row n of the claim.
-pub checks_alone : {pool head head₁ head₂ : Pool} {claims other : List ℕ} {before after after' : Store} {verdict verdict' : Verdict}
+pub checks_alone : {pool head head₁ head₂ : Pool} {claims other : List ℕ} {before after after' : Store} {verdict verdict' : VerdictAnswer}
     → take (suc pool.assets) claims ≡ take (suc pool.assets) other → Checks pool head claims before after verdict head₁
     → Checks pool head other before after' verdict' head₂ → (verdict ≡ verdict') × (after ≡ after') × (head₁ ≡ head₂)
 unfolding defaults

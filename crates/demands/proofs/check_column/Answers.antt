@@ -4,6 +4,6 @@ use Rattle.pool.specs.Demands.{lent}
 use Rattle.column_check.proofs.Calls.Demands.{check_meets}
 use Rattle.demands.proofs.check_column.Goals as goal
 
-pub returns : goal.returns
+pub returns-clause-demands : goal.returns-clause-demands
 unfolding store lent
-returns c = check_meets c.check_column.ensures
+returns-clause-demands c = check_meets c.check_column.ensures.checks

@@ -4,6 +4,6 @@ use Rattle.pool.specs.Demands.{lent}
 use Rattle.pool.proofs.Demands.Theorems.{column_meets}
 use Rattle.demands.proofs.column.Goals as goal
 
-pub returns : goal.returns
+pub returns-clause-demands : goal.returns-clause-demands
 unfolding store lent
-returns c = column_meets c.column.ensures
+returns-clause-demands c = column_meets c.column.ensures.prints

@@ -4,6 +4,6 @@ use Rattle.pool.specs.Demands.{lent}
 use Rattle.pool.proofs.Demands.Theorems.{fill_meets}
 use Rattle.demands.proofs.fill.Goals as goal
 
-pub returns : goal.returns
+pub returns-clause-demands : goal.returns-clause-demands
 unfolding store lent
-returns c = fill_meets c.fill.ensures
+returns-clause-demands c = fill_meets c.fill.ensures.fills

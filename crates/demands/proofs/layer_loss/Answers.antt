@@ -4,6 +4,6 @@ use Rattle.pool.specs.Demands.{lent}
 use Rattle.pool.proofs.Demands.Theorems.{layer_meets}
 use Rattle.demands.proofs.layer_loss.Goals as goal
 
-pub returns : goal.returns
+pub returns-clause-demands : goal.returns-clause-demands
 unfolding store lent
-returns c = layer_meets _ c.layer_loss.ensures
+returns-clause-demands c = layer_meets _ c.layer_loss.ensures.replies

@@ -4,6 +4,6 @@ use Rattle.pool.specs.Demands.{lent}
 use Rattle.store_file.specs.Calls.Demands.{read_meets}
 use Rattle.demands.proofs.read_file.Goals as goal
 
-pub returns : goal.returns
+pub returns-clause-demands : goal.returns-clause-demands
 unfolding store lent
-returns c = read_meets c.read.ensures
+returns-clause-demands c = read_meets c.read.ensures.reads

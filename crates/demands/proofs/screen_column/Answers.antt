@@ -4,6 +4,6 @@ use Rattle.pool.specs.Demands.{lent}
 use Rattle.screen.proofs.Calls.Demands.{screen_column_meets}
 use Rattle.demands.proofs.screen_column.Goals as goal
 
-pub returns : goal.returns
+pub returns-clause-demands : goal.returns-clause-demands
 unfolding store lent
-returns c = screen_column_meets c.column.ensures
+returns-clause-demands c = screen_column_meets c.column.ensures.prints

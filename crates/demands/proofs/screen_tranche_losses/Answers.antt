@@ -5,6 +5,6 @@ use Rattle.pool.specs.Demands.{lent}
 use Rattle.screen.proofs.Calls.Demands.{screen_tranches_meet}
 use Rattle.demands.proofs.screen_tranche_losses.Goals as goal
 
-pub returns : goal.returns
+pub returns-clause-demands : goal.returns-clause-demands
 unfolding store lent
-returns c = screen_tranches_meet _ (omega arith) c.tranche_losses.ensures
+returns-clause-demands c = screen_tranches_meet _ (omega arith) c.tranche_losses.ensures.replies

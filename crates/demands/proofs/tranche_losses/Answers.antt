@@ -5,6 +5,6 @@ use Rattle.pool.specs.Demands.{lent}
 use Rattle.pool.proofs.Demands.Theorems.{tranches_meet}
 use Rattle.demands.proofs.tranche_losses.Goals as goal
 
-pub returns : goal.returns
+pub returns-clause-demands : goal.returns-clause-demands
 unfolding store lent
-returns c = tranches_meet _ (omega arith) c.tranche_losses.ensures
+returns-clause-demands c = tranches_meet _ (omega arith) c.tranche_losses.ensures.replies

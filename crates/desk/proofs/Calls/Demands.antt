@@ -21,13 +21,14 @@ use Rattle.working.specs.Slices.{number_at}
 use Rattle.working.proofs.Slices.Laws.{entries_kept, entries_at, entries_length, entries_later}
 use Rattle.grounds.specs.Grounds.{first_ground, fill_grounds, desk_grounds}
 use Rattle.grounds.specs.Grounds.Laws.{desk_accepted, desk_other_pair, desk_above_assets, desk_above_ceiling, desk_answered, desk_within}
-use Rattle.store.specs.declared.Pool.{Pool}
+use Rattle.steps.specs.declared.Pool.{Pool}
 use Rattle.store.specs.Stores.{Store, lengths, side_of, place}
 use Rattle.pool.specs.Demands.{kept_zero, Slices, lengths_of, number_on, BoundDemands, StoreDemands, SameRow, row_of, DeskRowDemands, DeskDemands}
 use Rattle.pool.proofs.Demands.Theorems.{slices}
 use Rattle.desk.specs.declared.Request.{Request}
 use Rattle.desk.specs.declared.DeskRow.{DeskRow}
 use Rattle.desk.specs.Calls.{desk_refusal, row_on, row_handed, ReadsRow}
+use Rattle.grounds.specs.Refusals.{refusal_number}
 
 -- ---- what is handed over
 
@@ -56,7 +57,7 @@ module _ (head : Pool) (request : Request) (ceiling : ℕ) (s : Store) (answer :
   unfolding working_places working_assets
   zeros_long = length-replicate working_places nought
 
-  module _ (none : answer.refusal ≡ 0) where
+  module _ (none : refusal_number answer.outcome ≡ 0) where
     row_few : k < length zeros
     unfolding desk_refusal largest_pool
     row_few =
@@ -75,16 +76,16 @@ module _ (head : Pool) (request : Request) (ceiling : ℕ) (s : Store) (answer :
         ∙ ap (λ row. get_or row (j - (k + 1)) nought) (entries_later k (numbers side) zeros (reads.rows_are side) none)
         ∙ get_or-drop (k + 1) zeros (j - (k + 1)) nought ∙ zero_at working_places ((k + 1) + (j - (k + 1))))
 
-  row_kept : (answer.refusal ≡ 0 → ⊥) → (side : Side) → row_on answer side ≡ zeros
+  row_kept : (refusal_number answer.outcome ≡ 0 → ⊥) → (side : Side) → row_on answer side ≡ zeros
   unfolding row_handed
   row_kept some side = entries_kept k (numbers side) zeros (reads.rows_are side) some
 
   row_places : (side : Side) → length (row_on answer side) ≡ 101
   unfolding row_handed
-  row_places side = elim (dec_le 1 answer.refusal) [
+  row_places side = elim (dec_le 1 (refusal_number answer.outcome)) [
     | yes some ↦ ap length (row_kept (λ none. omega arith) side) ∙ zeros_long
     | no none ↦
-        let accepted : answer.refusal ≡ 0 = omega arith in
+        let accepted : refusal_number answer.outcome ≡ 0 = omega arith in
         entries_length k (numbers side) zeros (reads.rows_are side) accepted (row_few accepted) ∙ zeros_long
   ]
 
@@ -93,7 +94,7 @@ module _ (head : Pool) (request : Request) (ceiling : ℕ) (s : Store) (answer :
   row_of_lem Low = refl
   row_of_lem High = refl
 
-  handed_meets : DeskRowDemands request.probability request.correlation k ceiling head (slices s) answer.refusal answer.low answer.high
+  handed_meets : DeskRowDemands request.probability request.correlation k ceiling head (slices s) (refusal_number answer.outcome) answer.low answer.high
   unfolding desk_refusal lengths largest_pool kept_zero nought
   handed_meets = record {
     number = reads.refusal_is;
@@ -179,7 +180,7 @@ module _ (p' ρ' k ceiling : ℕ) {parts parts₂ : ℕ → ℕ} {pool pool₂ c
 -- ---- the call
 
 pub desk_meets : (head : Pool) (request : Request) (ceiling : ℕ) (s : Store) (answer : DeskRow) → ReadsRow head request ceiling s answer
-    → DeskDemands request.probability request.correlation request.row ceiling head (slices s) answer.refusal answer.low answer.high
+    → DeskDemands request.probability request.correlation request.row ceiling head (slices s) (refusal_number answer.outcome) answer.low answer.high
 desk_meets head request ceiling s answer reads =
     let p' = request.probability in
     let ρ' = request.correlation in

@@ -4,41 +4,46 @@ use Rattle.kept.specs.declared.Side.TheVariants.{Low, High}
 use Rattle.kept.specs.Rounding.{nought}
 use Rattle.steps.specs.Inputs.{largest_pool, working_assets}
 use Rattle.working.specs.Working.{working_places}
-use Rattle.grounds.specs.Grounds.{four_lengths}
 use Rattle.grounds.specs.Grounds.Laws.{desk_accepted}
-use Rattle.store.specs.Stores.{store, lengths, side_of}
+use Rattle.store.specs.Stores.{side_of}
+use Rattle.store.specs.Lent.{contents}
 use Rattle.desk.specs.Calls.{desk_refusal}
 use Rattle.desk.specs.Calls.Laws.{row_refused, row_read, row_readable, reads_row}
+use Rattle.grounds.proofs.Refusals.{err_some, ok_none}
 use Rattle.desk.proofs.read.Goals as goal
 
-pub returns-then-refusal-ne0 : goal.returns-then-refusal-ne0
-unfolding desk_refusal lengths store four_lengths largest_pool working_places working_assets
-returns-then-refusal-ne0 c =
+pub returns-then-is_err : goal.returns-then-is_err
+unfolding desk_refusal largest_pool working_places working_assets
+returns-then-is_err c =
     let is_zero : c.zero-zero.result ≡ nought = c.zero-zero.ensures in
-    let some = c.if-refusal-ne0.true in
-    reads_row c.args.head c.args.request c.args.ceiling _ _ c.desk_refusal-refusal.ensures
+    let some = (err_some _ c.is_err.ensures.value c.if-is_err.true) in
+    reads_row c.args.head c.args.request c.args.ceiling _ _ (rw c.lengths.ensures at c.desk_refusal-outcome.ensures)
     (rw is_zero (row_refused _ _ some)) (rw is_zero (row_refused _ _ some))
 
-pub read_row-low-requires : goal.read_row-low-requires
-unfolding lengths store side_of four_lengths largest_pool
-read_row-low-requires c =
-    row_readable Low (store c.args.low_significands.now c.args.high_significands.now c.args.low_exponents.now c.args.high_exponents.now)
-    (desk_accepted _ _ _ _ _ _ _ _ _ c.desk_refusal-refusal.ensures c.if-refusal-ne0.false) (omega arith) c.row_start-from.ensures
+pub row-low-requires : goal.row-low-requires
+unfolding side_of largest_pool
+row-low-requires c =
+    rw c.low.ensures
+    (row_readable Low (contents c.args.store.now)
+    (desk_accepted _ _ _ _ _ _ _ _ _ (rw c.lengths.ensures at c.desk_refusal-outcome.ensures) (ok_none _ c.is_err.ensures.value c.if-is_err.false))
+    (omega arith) c.row_start-from.ensures)
 
-pub read_row-high-requires : goal.read_row-high-requires
-unfolding lengths store side_of four_lengths largest_pool
-read_row-high-requires c =
-    row_readable High (store c.args.low_significands.now c.args.high_significands.now c.args.low_exponents.now c.args.high_exponents.now)
-    (desk_accepted _ _ _ _ _ _ _ _ _ c.desk_refusal-refusal.ensures c.if-refusal-ne0.false) (omega arith) c.row_start-from.ensures
+pub row-high-requires : goal.row-high-requires
+unfolding side_of largest_pool
+row-high-requires c =
+    rw c.high.ensures
+    (row_readable High (contents c.args.store.now)
+    (desk_accepted _ _ _ _ _ _ _ _ _ (rw c.lengths.ensures at c.desk_refusal-outcome.ensures) (ok_none _ c.is_err.ensures.value c.if-is_err.false))
+    (omega arith) c.row_start-from.ensures)
 
 pub returns : goal.returns
-unfolding desk_refusal lengths store side_of four_lengths largest_pool
+unfolding desk_refusal side_of largest_pool
 returns c =
-    let lent = store c.args.low_significands.now c.args.high_significands.now c.args.low_exponents.now c.args.high_exponents.now in
-    let refusal = c.desk_refusal-refusal.ensures in
-    let none = c.if-refusal-ne0.false in
+    let lent = contents c.args.store.now in
+    let number = rw c.lengths.ensures at c.desk_refusal-outcome.ensures in
+    let none = ok_none _ c.is_err.ensures.value c.if-is_err.false in
     let from = c.row_start-from.ensures in
-    let room = row_readable Low lent (desk_accepted _ _ _ _ _ _ _ _ _ refusal none) refl from in
-    reads_row c.args.head c.args.request c.args.ceiling lent _ (sym none ∙ refusal)
-    (row_read _ (omega arith) from (omega (arith, room.places)) c.read_row-low.ensures)
-    (row_read _ (omega arith) from (omega (arith, room.places)) c.read_row-high.ensures)
+    let room = row_readable Low lent (desk_accepted _ _ _ _ _ _ _ _ _ number none) refl from in
+    reads_row c.args.head c.args.request c.args.ceiling lent _ number
+    (rw none (row_read _ (omega arith) from (omega (arith, room.places)) (rw c.low.ensures at c.row-low.ensures)))
+    (rw none (row_read _ (omega arith) from (omega (arith, room.places)) (rw c.high.ensures at c.row-high.ensures)))

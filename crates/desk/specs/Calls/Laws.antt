@@ -18,7 +18,7 @@ use Rattle.working.specs.Slices.{SideStore, number_at, Readable}
 use Rattle.working.proofs.Slices.Laws.{changed_entries, after_same, entries_untouched, entries_at}
 use Rattle.grounds.specs.Grounds.{DeskAccepted}
 use Rattle.grounds.specs.Grounds.Laws.{desk_accepted}
-use Rattle.store.specs.declared.Pool.{Pool}
+use Rattle.steps.specs.declared.Pool.{Pool}
 use Rattle.store.specs.Stores.{Store, lengths, side_of, place}
 use Rattle.store.specs.Stores.Laws.{place_triangle, enclosed_same}
 use Rattle.store.specs.Filling.Laws.{fillable}
@@ -27,6 +27,7 @@ use Rattle.store.proofs.Calls.Laws.{fills_head}
 use Rattle.desk.specs.declared.Request.{Request}
 use Rattle.desk.specs.declared.DeskRow.{DeskRow}
 use Rattle.desk.specs.Calls.{desk_refusal, row_on, row_handed, SameNumbers, HoldsRow, ReadsRow}
+use Rattle.grounds.specs.Refusals.{refusal_number}
 
 -- ---- a row of one side
 
@@ -61,18 +62,18 @@ row_readable {n} {k} side s accepted count_is from_is =
       room = record { significands = omega (arith, room.significands); exponents = omega (arith, room.exponents) };
     }
 
-module _ (head : Pool) (request : Request) (ceiling : ℕ) (s : Store) (answer : DeskRow) (is : answer.refusal ≡ desk_refusal head request ceiling s)
-    (low_is : answer.low ≡ row_handed answer.refusal request.row s.low) (high_is : answer.high ≡ row_handed answer.refusal request.row s.high) where
-  rows : (side : Side) → row_on answer side ≡ row_handed answer.refusal request.row (side_of side s)
+module _ (head : Pool) (request : Request) (ceiling : ℕ) (s : Store) (answer : DeskRow) (is : refusal_number answer.outcome ≡ desk_refusal head request ceiling s)
+    (low_is : answer.low ≡ row_handed (refusal_number answer.outcome) request.row s.low) (high_is : answer.high ≡ row_handed (refusal_number answer.outcome) request.row s.high) where
+  rows : (side : Side) → row_on answer side ≡ row_handed (refusal_number answer.outcome) request.row (side_of side s)
   unfolding row_on side_of
   rows Low = low_is
   rows High = high_is
 
-  row_entry_lem : answer.refusal ≡ 0 → (side : Side) (j : ℕ) → j ≤ request.row → get_or (row_on answer side) j nought ≡ number_at (side_of side s) (place request.row j)
+  row_entry_lem : refusal_number answer.outcome ≡ 0 → (side : Side) (j : ℕ) → j ≤ request.row → get_or (row_on answer side) j nought ≡ number_at (side_of side s) (place request.row j)
   unfolding row_handed
   row_entry_lem none side = entries_at request.row (λ j. number_at (side_of side s) (place request.row j)) (replicate working_places nought) (rows side) none nought
 
-  row_holds : answer.refusal ≡ 0 → {number : ℕ} {g : ℕ → ℕ} {pool came : Pool} {before after : Store} → Fills number g pool came before after 0 head
+  row_holds : refusal_number answer.outcome ≡ 0 → {number : ℕ} {g : ℕ → ℕ} {pool came : Pool} {before after : Store} → Fills number g pool came before after 0 head
       → SameNumbers request.row s after → HoldsRow (g request.row) head.probability head.correlation request.row (row_on answer)
   unfolding desk_refusal side_of
   row_holds none {pool} {after} fills same =

@@ -3,4 +3,4 @@ use Rattle.expected_losses.specs.Loss.Laws.{LossesBelow}
 use Rattle.expected_losses.proofs.each_loss.Given as goal
 
 abbrev pub invariant-loop-i : goal.invariant-loop-i
-invariant-loop-i l = LossesBelow l.n l.low l.high l.tranches l.count l.i l.losses
+invariant-loop-i l = LossesBelow l.n l.chances.low l.chances.high l.tranches l.i l.losses

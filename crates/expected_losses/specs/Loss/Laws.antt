@@ -1,29 +1,25 @@
 -- Loss units, the running total of an expected loss, the losses of tranches one after the other, and which answer it is.
 -- Assumes nothing.
-use Rattle.std.specs.Prelude.{ℕ, zero, suc, ◌+◌, ◌-◌, ◌*◌, ◌^◌, ◌≤◌, ◌<◌, ◌≡◌, refl, true, false, List, [], ◌∷◌, map, T, ℤ, pos, negsuc, nat_abs, ◌-ℤ◌, length, get_or, set, take, replicate}
-use Rattle.std.proofs.Common.{sym, subst, ◌∙◌, true≢false, add-one, arith, ltb-true, length-take-le, get_or-take, Fits, to_z, of_z}
+use Rattle.std.specs.Prelude.{ℕ, zero, suc, ◌+◌, ◌-◌, ◌*◌, ◌^◌, ◌≤◌, ◌<◌, ◌≡◌, refl, List, [], ◌∷◌, map, length, get_or, set, take, replicate}
+use Rattle.std.proofs.Common.{sym, ◌∙◌, add-one, arith, length-take-le, Fits}
 use Rattle.std.proofs.Math.Path.{ap}
 use Rattle.std.proofs.Math.Nat.{mul-le-mul}
 use Rattle.std.proofs.Math.ListN.{length-set}
-use Rattle.std.proofs.lemmas.List.{length-map}
-use Rattle.std.specs.Int.Signed.{lt_z, non_neg}
+use Rattle.std.proofs.lemmas.List.{length-map, take_all}
 use Rattle.std.specs.Int.{w32}
 use Rattle.model.specs.Fraction.{whole}
-use Rattle.model.specs.Number.{raise}
-use Rattle.model.specs.Number.Laws.{raised_minus}
 use Rattle.model.specs.Chances.{loss_units}
 use Rattle.kept.specs.declared.Kept.{Kept}
 use Rattle.kept.specs.declared.Side.{Side}
 use Rattle.kept.specs.declared.Side.TheVariants.{Low, High}
 use Rattle.kept.specs.Rounding.{Operand, of_integer, rounded_product, rounded_sum, rounded_quotient}
-use Rattle.kept.specs.Rounding.Exponents.{difference_back}
 use Rattle.steps.specs.Chances.{kept_total, kept_term, kept_loss}
 use Rattle.steps.proofs.Chances.Laws.{units_either}
 use Rattle.steps.proofs.Exponents.Laws.{ranged_operand}
 use Rattle.steps.specs.Inputs.{working_assets, TrancheInRange}
 use Rattle.steps.specs.declared.Tranche.{Tranche}
 use Rattle.steps.specs.Loss.{untouched}
-use Rattle.steps.specs.Tranches.{tranche_places, tranche_at, tranche_losses}
+use Rattle.steps.specs.Tranches.{tranche_places, tranche_losses}
 use Rattle.steps.proofs.Tranches.Laws.{losses_more}
 use Rattle.steps.specs.Numbers.{is_units, is_term, is_total, of_losses}
 use Rattle.working.specs.Working.{working_places, Entries}
@@ -32,52 +28,14 @@ use Rattle.chances.specs.Chances.{ChancesMade}
 use Rattle.chances.specs.Chances.Laws.{entry_operand, chances_ready}
 use Rattle.expected_losses.specs.declared.Loss.{Loss}
 use Rattle.expected_losses.specs.declared.Loss.TheVariants.{Untouched, Faint, Shown}
-use Rattle.expected_losses.specs.declared.TrancheLoss.{TrancheLoss}
-use Rattle.expected_losses.specs.declared.Answer.{Answer}
 use Rattle.expected_losses.specs.Loss.{UnitsMade, LossReady, LossMade, loss_of, TrancheAnswered, EachReady, EachAnswered, losses_in, TranchesReady}
 
 -- ---- loss units
 
--- The product of two numbers of basis points fits an i32, and so a word.
-pub basis_points_signed : {x y : ℕ} → x ≤ whole → y ≤ whole → x * y < 2 ^ 31
-unfolding whole
-basis_points_signed l m = omega (arith, mul-le-mul l m)
-
+-- The product of two numbers of basis points fits a word.
 pub basis_points_word : {x y : ℕ} → x ≤ whole → y ≤ whole → Fits w32 (x * y)
-basis_points_word l m = record { fits = omega (arith, basis_points_signed l m) }
-
--- a − b as an i32.
-abbrev difference : ℕ → ℕ → ℤ
-difference a b = to_z w32 (of_z w32 (to_z w32 a -ℤ to_z w32 b))
-
-raised_below : (x : ℤ) → lt_z x (pos 0) ≡ true → raise x ≡ 0
-unfolding raise
-raised_below (pos a) test = omega (arith, ltb-true a 0 test)
-raised_below (negsuc a) test = refl
-
-raised_same : (x : ℤ) → lt_z x (pos 0) ≡ false → x ≡ pos (raise x)
-unfolding raise
-raised_same (pos a) test = refl
-raised_same (negsuc a) test = absurd (true≢false test)
-
-module _ {a b : ℕ} (l : a < 2 ^ 31) (m : b < 2 ^ 31) where
-  raised_difference : raise (difference a b) ≡ a - b
-  unfolding raise
-  raised_difference = ap raise (difference_back l m) ∙ raised_minus (pos a) b
-
-  -- Where the difference is below zero, nothing is left of a.
-  pub difference_below : lt_z (difference a b) (pos 0) ≡ true → a - b ≡ 0
-  difference_below test = sym raised_difference ∙ raised_below (difference a b) test
-
-  difference_same : lt_z (difference a b) (pos 0) ≡ false → difference a b ≡ pos (a - b)
-  difference_same test = raised_same (difference a b) test ∙ ap pos raised_difference
-
-  -- Where it is not, it may be cast to a word, and is the difference of whole numbers.
-  pub difference_cast : lt_z (difference a b) (pos 0) ≡ false → T (non_neg (difference a b)) × Fits w32 (nat_abs (difference a b))
-  difference_cast test = rw (difference_same test) (tt, record { fits = omega arith })
-
-  pub difference_whole : lt_z (difference a b) (pos 0) ≡ false → nat_abs (difference a b) ≡ a - b
-  difference_whole test = ap nat_abs (difference_same test)
+unfolding whole
+basis_points_word l m = record { fits = omega (arith, mul-le-mul l m) }
 
 -- ---- loss units in kept numbers
 
@@ -161,62 +119,56 @@ map_set f (y ∷ ys) zero x = refl
 map_set f (y ∷ ys) (suc i) x = ap (λ r. f y ∷ r) (map_set f ys i x)
 
 -- The losses of the first i tranches are made.
-pub record LossesBelow (n : ℕ) (low high : List Kept) (ts : List Tranche) (count i : ℕ) (losses : List TrancheLoss) : Type 0 where
-  pub ready : EachReady n low high ts count
-  pub within : i ≤ count
+pub record LossesBelow (n : ℕ) (low high : List Kept) (ts : List Tranche) (i : ℕ) (losses : List Loss) : Type 0 where
+  pub ready : EachReady n low high ts
+  pub within : i ≤ length ts
   pub places_are : length losses ≡ tranche_places
   pub made : EachAnswered n low high (take i ts) (losses_in losses)
 
-pub losses_none : {n : ℕ} {low high : List Kept} {ts : List Tranche} {count : ℕ} (losses : List TrancheLoss) → EachReady n low high ts count
-    → losses_in losses ≡ replicate tranche_places untouched → LossesBelow n low high ts count 0 losses
+pub losses_none : {n : ℕ} {low high : List Kept} {ts : List Tranche} (losses : List Loss) → EachReady n low high ts
+    → losses_in losses ≡ replicate tranche_places untouched → LossesBelow n low high ts 0 losses
 unfolding losses_in tranche_losses tranche_places
 losses_none losses ready are = record {
   ready = ready;
   within = omega arith;
-  places_are = sym (length-map losses (λ l. loss_of l.loss)) ∙ ap length are;
+  places_are = sym (length-map losses loss_of) ∙ ap length are;
   made = record { answers_are = λ _ _. are };
 }
 
-module _ {n : ℕ} {low high : List Kept} {ts : List Tranche} {count i : ℕ} {losses : List TrancheLoss} (done : LossesBelow n low high ts count i losses) where
-  pub loss_more : length ts ≡ tranche_places → i < count → (d : Tranche) (loss : TrancheLoss) → TrancheAnswered n low high (get_or ts i d) (loss_of loss.loss)
-      → LossesBelow n low high ts count (i + 1) (set losses i loss)
+module _ {n : ℕ} {low high : List Kept} {ts : List Tranche} {i : ℕ} {losses : List Loss} (done : LossesBelow n low high ts i losses) where
+  pub loss_more : i < length ts → (d : Tranche) (loss : Loss) → TrancheAnswered n low high (get_or ts i d) (loss_of loss)
+      → LossesBelow n low high ts (i + 1) (set losses i loss)
   unfolding losses_in
-  loss_more tranches l d loss answered =
-      let b : i < tranche_places = omega (arith, done.ready.places) in
-      rw (add-one i) (record {
-        ready = done.ready;
-        within = omega arith;
-        places_are = length-set losses i loss ∙ done.places_are;
-        made = record {
-          answers_are = λ c on.
-              map_set (λ l. loss_of l.loss) losses i loss
-              ∙ rw (done.made.answers_are c on) (losses_more n c ts i d (rw tranches b) b (answered.answer_is c on));
-        };
-      })
+  loss_more l d loss answered = rw (add-one i) (record {
+    ready = done.ready;
+    within = omega arith;
+    places_are = length-set losses i loss ∙ done.places_are;
+    made = record {
+      answers_are = λ c on.
+          map_set loss_of losses i loss
+          ∙ rw (done.made.answers_are c on) (losses_more n c ts i d l (omega (arith, done.ready.places)) (answered.answer_is c on));
+    };
+  })
 
-  pub losses_all : i ≡ count → EachAnswered n low high (take count ts) (losses_in losses)
-  losses_all all = rw all at done.made
+  pub losses_all : i ≡ length ts → EachAnswered n low high ts (losses_in losses)
+  losses_all all = rw (take_all i ts (omega arith)) at done.made
 
 -- From rows that are ready: low' and high' are the chances that step 4 makes of them.
 pub each_ready : {n : ℕ} {low high low' high' : List Kept} {ts : List Tranche} {count : ℕ} → TranchesReady n low high ts count → length ts ≡ tranche_places
-    → ChancesMade Low n low low' → ChancesMade High n high high' → EachReady n low' high' ts count
+    → ChancesMade Low n low low' → ChancesMade High n high high' → EachReady n low' high' (take count ts)
 unfolding chances_ready
-each_ready {ts} {count} ready as_many low high =
-    let range : (i : ℕ) → i < count → TrancheInRange (tranche_at ts i).recovery (tranche_at ts i).lower (tranche_at ts i).upper = λ i l.
-    let asked : i < length (take count ts) = rw (length-take-le count ts (rw as_many ready.places)) l in
-    subst (λ t. TrancheInRange t.recovery t.lower t.upper) (get_or-take count ts i _ l) (ready.tranches.at i asked) in
-    record {
-      places = ready.places;
-      ready = λ i l. record {
-        not_empty = ready.not_empty;
-        tranche = range i l;
-        low_ready = chances_ready ready.low_ready low (λ _. of_losses _ _ _ (range i l).upper);
-        high_ready = chances_ready ready.high_ready high (λ _. of_losses _ _ _ (range i l).upper);
-        answerable = ready.answerable _ _ _ (range i l).upper;
-      };
-    }
+each_ready {ts} {count} ready as_many low high = record {
+  places = rw (length-take-le count ts (rw as_many ready.places)) ready.places;
+  ready = λ i l. let range = ready.tranches.at i l in record {
+    not_empty = ready.not_empty;
+    tranche = range;
+    low_ready = chances_ready ready.low_ready low (λ _. of_losses _ _ _ range.upper);
+    high_ready = chances_ready ready.high_ready high (λ _. of_losses _ _ _ range.upper);
+    answerable = ready.answerable _ _ _ range.upper;
+  };
+}
 
--- ---- which answer it is shows in its number and its losses
+-- ---- which losses they are shows in what they stand for
 
 pub one_loss : (x y : Loss) → loss_of x ≡ loss_of y → x ≡ y
 unfolding loss_of
@@ -234,16 +186,12 @@ one_loss (Shown a) (Shown b) same =
     let bounds : Shown (record { low = a.low; high = a.high }) ≡ Shown (record { low = b.low; high = b.high }) = rw (low, high) refl in
     bounds
 
-same_losses : (xs ys : List TrancheLoss) → losses_in xs ≡ losses_in ys → xs ≡ ys
+pub same_losses : (xs ys : List Loss) → losses_in xs ≡ losses_in ys → xs ≡ ys
 unfolding losses_in
 same_losses [] [] same = refl
 same_losses [] (y ∷ ys) same = cc same
 same_losses (x ∷ xs) [] same = cc same
 same_losses (x ∷ xs) (y ∷ ys) same =
-    let first : x.loss ≡ y.loss = one_loss x.loss y.loss (cc same) in
+    let first : x ≡ y = one_loss x y (cc same) in
     let rest : losses_in xs ≡ losses_in ys = cc same in
-    let one : x ≡ y = ap (λ l. record { loss = l }) first in
-    rw (one, same_losses xs ys rest) refl
-
-pub one_answer : (x y : Answer) → x.refusal ≡ y.refusal → losses_in x.losses ≡ losses_in y.losses → x ≡ y
-one_answer x y number losses = ap (λ (a : ℕ × List TrancheLoss). record { refusal = a.0; losses = a.1 }) (rw (number, same_losses x.losses y.losses losses) refl)
+    rw (first, same_losses xs ys rest) refl

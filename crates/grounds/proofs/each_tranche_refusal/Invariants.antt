@@ -1,6 +1,7 @@
--- At the loop's head the refusal is that of the tranches before i.
-use Rattle.grounds.specs.Grounds.Laws.{RefusedBefore}
+-- At the loop's head the tranches before are not refused.
+use Rattle.std.proofs.Common.{◌≡◌, drop}
+use Rattle.grounds.specs.Grounds.{first_ground, tranches_grounds}
 use Rattle.grounds.proofs.each_tranche_refusal.Given as goal
 
-abbrev pub invariant-loop-i : goal.invariant-loop-i
-invariant-loop-i l = RefusedBefore l.tranches l.count l.i l.refusal
+abbrev pub invariant-loop-tranche : goal.invariant-loop-tranche
+invariant-loop-tranche l = first_ground (tranches_grounds l.fn.tranches) ≡ first_ground (tranches_grounds (drop l.tranche-index l.fn.tranches))

@@ -10,7 +10,7 @@ use mathlib.Core.List.{List, [], ◌∷◌, ◌++◌}
 use borrow.Author.Tests.{ltb-false, eqb-true, eqb-false, not-false, ltb-true, lt-ltb, le-ltb, eq-eqb, ne_eqb}
 use Rattle.std.proofs.Math.Dec.{eqb, ltb}
 use Rattle.std.proofs.Math.ListN.{length, length-take}
-use Rattle.std.proofs.Math.Seq.{get_or-take}
+use Rattle.std.specs.Prelude.{get_or}
 use Rattle.model.specs.Fraction.{whole}
 use Rattle.model.specs.Number.{triangle}
 use Rattle.model.specs.Number.Laws.{triangle_closed, triangle_mono}
@@ -66,7 +66,7 @@ first_assoc (suc a) b c = refl
 
 -- ---- two lists of grounds
 
-first_append : (a b : List Ground) → first_of (first_ground a) (first_ground b) ≡ first_ground (a ++ b)
+pub first_append : (a b : List Ground) → first_of (first_ground a) (first_ground b) ≡ first_ground (a ++ b)
 unfolding first_ground first_of
 first_append [] b = refl
 first_append (g ∷ gs) b =
@@ -280,41 +280,16 @@ pub beta_loss_grounds_within : (most n p ρ : ℕ) (ts ts' : List Tranche) (coun
 unfolding beta_loss_grounds
 beta_loss_grounds_within most n p ρ ts ts' count same = rw (counted_within ts ts' count same) refl
 
--- The refusal is that of the tranches before place i: with those from there on it is that of all within the count.
-pub record RefusedBefore (ts : List Tranche) (count i refusal : ℕ) : Type 0 where
-  pub whole_is : first_ground (tranches_grounds (take count ts)) ≡ first_of refusal (first_ground (tranches_grounds (drop i (take count ts))))
+-- The tranches from place i on are that at the place and those behind it.
+pub tranches_from : (ts : List Tranche) {i : ℕ} (d : Tranche) → i < length ts
+    → tranches_grounds (drop i ts) ≡ tranche_grounds (get_or ts i d).recovery (get_or ts i d).lower (get_or ts i d).upper ++ tranches_grounds (drop (suc i) ts)
+unfolding tranches_grounds
+tranches_from ts {i} d placed = rw (drop-cons ts i d placed) refl
 
-module _ {ts : List Tranche} {count : ℕ} where
-  pub refused_none : RefusedBefore ts count 0 0
-  unfolding first_of
-  refused_none = record { whole_is = refl }
-
-  pub refused_more : {i refusal refusal' own : ℕ} → i < count → i < length ts → RefusedBefore ts count i refusal
-      → own ≡ first_ground (tranche_grounds (tranche_at ts i).recovery (tranche_at ts i).lower (tranche_at ts i).upper) → refusal' ≡ first_of refusal own
-      → RefusedBefore ts count (suc i) refusal'
-  unfolding tranches_grounds
-  refused_more {i} {refusal} within short before own_is is =
-      let placed : i < length (take count ts) = simp length-take (omega arith) in
-      let t = tranche_at ts i in
-      let left = tranches_grounds (drop (suc i) (take count ts)) in
-      record {
-        whole_is =
-            before.whole_is
-            ∙ rw (drop-cons (take count ts) i (record { recovery = 0; lower = 0; upper = 0 }) placed, get_or-take count ts i _ within, is, own_is, first_assoc)
-            (ap (first_of refusal) (sym (first_append (tranche_grounds t.recovery t.lower t.upper) left)));
-      }
-
-  -- Past the count nothing is left.
-  pub refused_past : {i refusal : ℕ} → count ≤ i → RefusedBefore ts count i refusal → RefusedBefore ts count (suc i) refusal
-  refused_past {i} past before =
-      let short : length (take count ts) ≤ i = simp length-take (omega arith) in
-      record { whole_is = before.whole_is ∙ rw (drop_of_length-le (take count ts) short, drop_of_length-le (take count ts) {i = suc i} (omega arith)) refl }
-
-  pub refused_all : {i refusal : ℕ} → length ts ≤ i → RefusedBefore ts count i refusal → refusal ≡ first_ground (tranches_grounds (take count ts))
-  unfolding tranches_grounds first_ground
-  refused_all {i} {refusal} all before =
-      let short : length (take count ts) ≤ i = simp length-take (omega arith) in
-      sym (before.whole_is ∙ rw (drop_of_length-le (take count ts) short, first_last) refl)
+-- Past the last none is left.
+pub tranches_done : (ts : List Tranche) {i : ℕ} → length ts ≤ i → 0 ≡ first_ground (tranches_grounds (drop i ts))
+unfolding tranches_grounds first_ground
+tranches_done ts past = rw (drop_of_length-le ts past) refl
 
 -- ---- the refusal of a pool
 

@@ -1,22 +1,15 @@
 -- `mean_tail` meets its contract.
 use Rattle.std.proofs.Common.{arith}
-use Rattle.steps.specs.Inputs.{working_assets}
-use Rattle.layer_losses.specs.Layer.Laws.{mean_none, tail_more, mean_made}
+use Rattle.layer_losses.specs.Layer.Laws.{sum_operands, tail_more, mean_made}
 use Rattle.layer_losses.proofs.mean_tail.Goals as goal
 
-pub loop-t-init : goal.loop-t-init
-loop-t-init c = mean_none c.requires c.zero-total.ensures
+pub sum-total-requires : goal.sum-total-requires
+sum-total-requires c =
+    let both = sum_operands c.loop-tail.invariant (omega (arith, c.requires.layer.order)) c.loop-tail-test.true _ in
+    record { operand = both.0; other = both.1 }
 
-pub bounds-tails-k : goal.bounds-tails-k
-unfolding working_assets
-bounds-tails-k c = omega (arith, c.loop-t.invariant.ready.layer)
-
-pub loop-t-preserved : goal.loop-t-preserved
-loop-t-preserved c =
-    let done = c.loop-t.invariant in
-    tail_more done (omega (arith, done.ready.layer)) _ (omega (arith, done.ready.layer)) _ c.sum-total.ensures
+pub loop-tail-preserved : goal.loop-tail-preserved
+loop-tail-preserved c = tail_more c.loop-tail.invariant (omega (arith, c.requires.layer.order)) c.loop-tail-test.true _ c.sum-total.ensures
 
 pub returns : goal.returns
-returns c =
-    let done = c.loop-t.invariant in
-    mean_made done _ (omega (arith, done.ready.layer)) (omega (arith, done.ready.layer)) c.quotient.ensures
+returns c = mean_made c.loop-tail.invariant (omega (arith, c.requires.layer.order)) c.loop-tail-test.false c.quotient.ensures

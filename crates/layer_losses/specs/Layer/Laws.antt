@@ -1,7 +1,8 @@
 -- The running total of a mean of tails, and the tails of a row for it.
 -- Assumes nothing.
-use Rattle.std.specs.Prelude.{ℕ, suc, ◌+◌, ◌-◌, ◌≤◌, ◌<◌, ◌≡◌, List, get_or}
-use Rattle.std.proofs.Common.{subst, add-one, arith}
+use Rattle.std.specs.Prelude.{ℕ, suc, ◌+◌, ◌-◌, ◌≤◌, ◌<◌, ◌≡◌, refl, List, length, get_or, take, drop}
+use Rattle.std.proofs.Common.{◌∙◌, add-one, arith, length-take-le, length-drop, get_or-take}
+use Rattle.std.proofs.lemmas.List.{get_or-drop}
 use Rattle.model.specs.Chances.{layer_width, layer_wide}
 use Rattle.kept.specs.declared.Kept.{Kept}
 use Rattle.kept.specs.declared.Side.{Side}
@@ -30,31 +31,42 @@ module _ {side : Side} {tails : List Kept} {i j t : ℕ} {total : Kept} (done : 
   pub total_operand : Operand total
   total_operand = rw (done.total_is _ done.ready.entries) (ranged_operand (done.ready.sum_ranged t done.within))
 
-  -- The tail at i + t.
-  module _ (more : t < layer_width i j) (k : ℕ) (k_is : k ≡ i + t) (d : Kept) where
-    within_layer : i + t ≤ j
-    within_layer = omega (arith, done.ready.layer.order)
+  -- Of m tails from that at i on, which are no more than the layer has.
+  module _ {m : ℕ} (few : m ≤ layer_width i j) where
+    as_many : length (take m (drop i tails)) ≡ m
+    unfolding working_places
+    as_many =
+        let rest : m ≤ length (drop i tails) = rw (length-drop i tails) (omega (arith, done.ready.layer, done.ready.entries.places_are)) in
+        length-take-le m (drop i tails) rest
 
-    tail_is : (tail : ℕ → Kept) → Entries (suc working_places) (suc j) tails tail → get_or tails k d ≡ tail (i + t)
-    tail_is tail e = rw k_is (e.entry d (i + t) (omega (arith, within_layer)))
+    -- The tail at i + t.
+    module _ (more : t < length (take m (drop i tails))) (d : Kept) where
+      within_part : t < m
+      within_part = rw as_many at more
 
-    pub sum_operands : Operand total × Operand (get_or tails k d)
-    sum_operands = (total_operand, rw (tail_is _ done.ready.entries) (ranged_operand (done.ready.tail_ranged (i + t) within_layer)))
+      within_layer : i + t ≤ j
+      within_layer = omega (arith, within_part, few, done.ready.layer.order)
 
-    pub tail_more : {x : Kept} → x ≡ rounded_sum side total (get_or tails k d) → MeanBelow side tails i j (t + 1) x
-    unfolding kept_total
-    tail_more sum = rw (add-one t) (record {
-      ready = done.ready;
-      within = omega arith;
-      total_is = λ tail e. rw (sum, done.total_is tail e, tail_is tail e);
-    })
+      tail_is : (tail : ℕ → Kept) → Entries (suc working_places) (suc j) tails tail → get_or (take m (drop i tails)) t d ≡ tail (i + t)
+      tail_is tail e = get_or-take m (drop i tails) t d within_part ∙ get_or-drop i tails t d ∙ e.entry d (i + t) (omega (arith, within_layer))
 
-  -- The quotient by the number of tails, however that is written.
-  pub mean_made : {r : Kept} (m : ℕ) → m ≡ layer_width i j → t ≡ layer_width i j → ((wide : 0 < m) → r ≡ rounded_quotient side total m wide) → MeanMade side tails i j r
-  mean_made {r} m m_is all quotient =
-      let by_width : (wide : 0 < layer_width i j) → r ≡ rounded_quotient side total (layer_width i j) wide =
-      subst (λ z. (wide : 0 < z) → r ≡ rounded_quotient side total z wide) m_is quotient in
-      record { mean = λ tail e. rw (by_width (layer_wide i j), done.total_is tail e, all) }
+      pub sum_operands : Operand total × Operand (get_or (take m (drop i tails)) t d)
+      sum_operands = (total_operand, rw (tail_is _ done.ready.entries) (ranged_operand (done.ready.tail_ranged (i + t) within_layer)))
+
+      pub tail_more : {x : Kept} → x ≡ rounded_sum side total (get_or (take m (drop i tails)) t d) → MeanBelow side tails i j (t + 1) x
+      unfolding kept_total
+      tail_more sum = rw (add-one t) (record {
+        ready = done.ready;
+        within = omega (arith, within_part, few);
+        total_is = λ tail e. rw (sum, done.total_is tail e, tail_is tail e);
+      })
+
+  -- Once all are added.
+  pub mean_made : {m : ℕ} {r : Kept} → m ≡ layer_width i j → length (take m (drop i tails)) ≤ t
+      → ((wide : 0 < layer_width i j) → r ≡ rounded_quotient side total (layer_width i j) wide) → MeanMade side tails i j r
+  mean_made {m} all most quotient =
+      let as_wide : t ≡ layer_width i j = omega (arith, done.within, rw (as_many {m = m} (omega (arith, all))) at most) in
+      record { mean = λ tail e. rw (quotient (layer_wide i j), done.total_is tail e, as_wide) refl }
 
 -- ---- from row n of a side: c is what step 4 makes of it, and `tails` what step 5 makes of c
 

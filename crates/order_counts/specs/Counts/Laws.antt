@@ -7,22 +7,33 @@ use native.Mathlib.Omega.{arith}
 use Rattle.std.proofs.lemmas.List.{length-replicate, get_or-replicate}
 use Rattle.model.specs.Number.{pascal_row}
 use Rattle.model.specs.Number.Laws.{pascal_inside, pascal_past, pascal_choose, choose_below}
-use Rattle.steps.specs.Counts.{exact_assets}
 use Rattle.working.specs.Working.{working_places}
 use Rattle.working.specs.Working.Laws.{changed_more}
+use Rattle.steps.specs.Inputs.{working_assets}
+use Rattle.kept.specs.declared.Side.{Side}
+use Rattle.kept.specs.Rounding.{Operand, unity, rounded_sum}
+use Rattle.steps.specs.Counts.{exact_assets, summed_count}
+use Rattle.steps.proofs.Counts.Laws.{summed_ranged}
+use Rattle.steps.proofs.Exponents.Laws.{ranged_operand}
 use Rattle.order_counts.specs.Counts.{Pascal, PascalBelow}
 
-pub pascal_first : {A : Type 0} (one : A) (plus : A → A → A) {x : A} → x ≡ one → Pascal one plus 0 (replicate working_places x)
-pascal_first one plus {x} is = record {
-  places_are = length-replicate working_places x;
-  entry = λ d j l. get_or-replicate working_places j x d l ∙ is ∙ sym (pascal_past one plus 0 j (omega arith));
+pub pascal_first : {A : Type 0} (one : A) (plus : A → A → A) → Pascal one plus 0 (replicate working_places one)
+pascal_first one plus = record {
+  places_are = length-replicate working_places one;
+  entry = λ d j l. get_or-replicate working_places j one d l ∙ sym (pascal_past one plus 0 j (omega arith));
 }
+
+-- Inside a row each entry is the sum of the two above.
+pascal_next : {A : Type 0} (one : A) (plus : A → A → A) {k j : ℕ} → 1 ≤ j → j ≤ k → plus (pascal_row one plus k (j - 1)) (pascal_row one plus k j) ≡ pascal_row one plus (suc k) j
+pascal_next one plus {k} {j} from l =
+    let next : suc (j - 1) ≡ j = omega arith in
+    sym (rw next at (pascal_inside one plus k (j - 1) (omega arith)))
 
 module _ {A : Type 0} {one : A} {plus : A → A → A} where
   -- Entry 0 stays one.
-  pub pascal_none : {k : ℕ} {row : List A} {x : A} → Pascal one plus k row → x ≡ one → PascalBelow one plus k 1 row row x
+  pub pascal_none : {k : ℕ} {row : List A} → Pascal one plus k row → PascalBelow one plus k 1 row row one
   unfolding working_places pascal_row
-  pascal_none start is = record {
+  pascal_none start = record {
     start = start;
     changed = record {
       new = record {
@@ -33,7 +44,7 @@ module _ {A : Type 0} {one : A} {plus : A → A → A} where
     };
     from = omega arith;
     within = omega arith;
-    neighbour = is;
+    neighbour = refl;
   }
 
   module _ {k j : ℕ} {row w : List A} {before : A} (done : PascalBelow one plus k j row w before) where
@@ -41,14 +52,8 @@ module _ {A : Type 0} {one : A} {plus : A → A → A} where
       here_is : get_or w j d ≡ pascal_row one plus k j
       here_is = done.changed.old d j (le_refl j) (omega arith) ∙ done.start.entry d j (omega arith)
 
-      -- What holds of the entries of row k holds of both that are added.
-      pub pascal_added : (P : A → Type 0) → ((i : ℕ) → i ≤ k → P (pascal_row one plus k i)) → P before × P (get_or w j d)
-      pascal_added P holds = (rw done.neighbour (holds (j - 1) (omega arith)), rw here_is (holds j l))
-
       pascal_sum : plus before (get_or w j d) ≡ pascal_row one plus (suc k) j
-      pascal_sum =
-          let next : suc (j - 1) ≡ j = omega (arith, done.from) in
-          rw (done.neighbour, here_is) (sym (rw next at (pascal_inside one plus k (j - 1) (omega arith))))
+      pascal_sum = rw (done.neighbour, here_is) (pascal_next one plus done.from l)
 
       pub pascal_more : {v : A} → v ≡ plus before (get_or w j d) → PascalBelow one plus k (j + 1) row (set w j v) (get_or w j d)
       pascal_more sum = record {
@@ -71,8 +76,14 @@ module _ {A : Type 0} {one : A} {plus : A → A → A} where
     }
 
 -- In whole numbers C(k+1,j) is below 2^(k+1).
-pub pascal_word : {k j : ℕ} {row w : List ℕ} {before : ℕ} → PascalBelow 1 ◌+◌ k j row w before → j ≤ k → k < working_places → k < exact_assets
-    → before + get_or w j 0 < 2 ^ 64
+pub words_add : (k j : ℕ) → k < exact_assets → 1 ≤ j → j ≤ k → pascal_row 1 ◌+◌ k (j - 1) + pascal_row 1 ◌+◌ k j < 2 ^ 64
 unfolding exact_assets
-pascal_word {k} {j} done l few exact =
-    rw (pascal_sum done l few 0, pascal_choose (suc k) j (omega arith)) (lt_of_lt_of_le (choose_below k j) (pow_mono exact))
+words_add k j few from l =
+    rw (pascal_next 1 ◌+◌ from l, pascal_choose (suc k) j (omega arith)) (lt_of_lt_of_le (choose_below k j) (pow_mono few))
+
+-- Sums of kept numbers have exponents in their range.
+pub kept_add : (side : Side) (k j : ℕ) → k < working_assets → 1 ≤ j → j ≤ k
+    → Operand (pascal_row unity (rounded_sum side) k (j - 1)) × Operand (pascal_row unity (rounded_sum side) k j)
+unfolding working_assets summed_count
+kept_add side k j few from l =
+    (ranged_operand (summed_ranged side k (j - 1) (omega arith) (omega arith)), ranged_operand (summed_ranged side k j (omega arith) l))

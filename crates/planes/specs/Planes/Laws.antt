@@ -14,6 +14,7 @@ use Rattle.std.proofs.Math.Dec.{ltb}
 use Rattle.std.proofs.Math.ListN.{length, get_or, get_or-append, get_or-map, get_or-eq_default}
 use Rattle.std.proofs.lemmas.List.{length-map}
 use Rattle.std.proofs.Math.Seq.{drop-append_seam}
+use Rattle.std.specs.Int.{to_le_bytes}
 use mir.Syntax.{w32}
 use mir.Val.{SFits}
 use Rattle.working.proofs.Slices.Laws.{length_tabulate, get_d_tabulate}
@@ -65,6 +66,22 @@ module _ (a b c d : ℕ) (a_byte : a < 256) (b_byte : b < 256) (c_byte : c < 256
   byte_3 : byte_of 3 (joined a b c d) ≡ d
   unfolding byte_of
   byte_3 = omega arith
+
+-- The bytes from the lowest, as std gives them.
+pub le_bytes : (x : ℕ) → to_le_bytes w32 x ≡ planes (x ∷ [])
+unfolding planes byte_of
+le_bytes x = let whole : x / 1 ≡ x = omega arith in rw whole refl
+
+pub le_byte : (k x : ℕ) → k < 4 → get_or (to_le_bytes w32 x) k 0 ≡ byte_of k x
+unfolding planes
+le_byte k x l = ap (λ (bytes : List ℕ). get_or bytes k 0) (le_bytes x) ∙ by_place k l
+  where
+    by_place : (k : ℕ) → k < 4 → get_or (planes (x ∷ [])) k 0 ≡ byte_of k x
+    by_place zero l = refl
+    by_place (suc zero) l = refl
+    by_place (suc (suc zero)) l = refl
+    by_place (suc (suc (suc zero))) l = refl
+    by_place (suc (suc (suc (suc k)))) l = absurd (omega arith)
 
 -- ---- an array
 

@@ -1,6 +1,6 @@
 -- What the page says of touching tranches, in figures; that each call which fills a store has what is demanded of all of them, and which head it hands back.
 -- Assumes nothing.
-use Rattle.std.specs.Prelude.{ℕ, suc, ◌+◌, ◌-◌, ◌*◌, ◌/◌, ◌%◌, ◌^◌, ◌≤◌, ◌<◌, ◌≡◌, refl, ◌⊎◌, List, ℤ, pos, negsuc, length, get_or, ◌≤ℤ◌}
+use Rattle.std.specs.Prelude.{Result, ℕ, suc, ◌+◌, ◌-◌, ◌*◌, ◌/◌, ◌%◌, ◌^◌, ◌≤◌, ◌<◌, ◌≡◌, refl, ◌⊎◌, List, ℤ, pos, negsuc, length, get_or, ◌≤ℤ◌}
 use Rattle.std.proofs.Common.{◌∙◌, lt-suc_self, arith}
 use Rattle.std.proofs.Math.Nat.{le_step}
 use Rattle.model.specs.Fraction.{Fraction, Same, AtMost, integer, plus, times, fraction_sum, whole}
@@ -13,17 +13,20 @@ use Rattle.kept.specs.Rounding.{value}
 use Rattle.kept.specs.Rounding.Leading.{side_same}
 use Rattle.steps.specs.Chances.{kept_loss}
 use Rattle.steps.specs.declared.Tranche.{Tranche}
-use Rattle.steps.specs.declared.Verdict.{Verdict}
 use Rattle.steps.proofs.Tranches.Cases.{three, touch}
 use Rattle.model.specs.Number.Laws.{triangle_closed}
 use Rattle.grounds.specs.Grounds.{store_places, first_ground, file_grounds}
 use Rattle.grounds.specs.Grounds.Laws.{store_places_lem}
-use Rattle.store.specs.declared.Pool.{Pool}
-use Rattle.expected_losses.specs.declared.Answer.{Answer}
-use Rattle.layer_losses.specs.declared.LayerAnswer.{LayerAnswer}
+use Rattle.steps.specs.declared.Pool.{Pool}
+use Rattle.pool.specs.declared.losses.Answer.{Answer}
+use Rattle.grounds.specs.declared.refusal.Refusal.{Refusal}
+use Rattle.expected_losses.specs.declared.Loss.{Loss}
+use Rattle.grounds.specs.Refusals.{refusal_number}
+use Rattle.pool.specs.Answers.{loss_in}
 use Rattle.pool.specs.Demands.{given_at, loss_at, Touch, Carries, CarriesTwo, loss_of_pool, LossesDemands, refusal_of, parts_for, Slices, StoreDemands, FillDemands}
 use Rattle.pool.specs.Demands.{ColumnDemands, ShiftDemands, TranchesDemands, LayerDemands, CheckDemands, ScreenColumnDemands, ScreenTranchesDemands}
 use Rattle.pool.specs.Demands.{kept_zero, lengths_of, number_on, from, TableDemands, byte_from, complement, head_of, entry_of, RoomDemands, FileDemands, WrittenDemands, WriteDemands, ReadDemands}
+use Rattle.steps.specs.Claims.{VerdictAnswer}
 
 -- The conditions, and no others.
 pub touches : (tranches : List Tranche) (count : ℕ) → 0 < count → (given_at tranches 0).lower ≡ 0
@@ -64,7 +67,7 @@ six_hundred : Same (loss_of_pool 1000 4000) (integer 600)
 unfolding loss_of_pool integer
 six_hundred = record { cross = refl }
 
-pub three_lose : {parts : ℕ} {r : Chances} {c : Side → ℕ → Kept} (answer : Answer) → LossesDemands parts 1000 r c three 3 answer → answer.refusal ≡ 0
+pub three_lose : {parts : ℕ} {r : Chances} {c : Side → ℕ → Kept} (answer : Answer) → LossesDemands parts 1000 r c three 3 answer → refusal_number answer.outcome ≡ 0
     → Loses600 r c answer
 unfolding fraction_sum whole
 three_lose answer demands none =
@@ -85,15 +88,15 @@ three_lose answer demands none =
 
 -- Each of the eight, whatever it is given beside the pool, the head and the store: bounds at the library's distance, and on the screen at its own.
 pub each_fills : (pool head head' : Pool) (before after : Slices) (refusal count i j : ℕ) (units units' claims : List ℕ) (shifts shifts' : List ℤ) (tranches : List Tranche)
-    (answer : Answer) (layer : LayerAnswer) (verdict : Verdict)
+    (answer : Answer) (layer : Result Loss Refusal) (verdict : VerdictAnswer)
     → (FillDemands pool head before after refusal head' → StoreDemands pool parts_for head before after refusal head')
     × (ColumnDemands pool head before after units units' refusal head' → StoreDemands pool parts_for head before after refusal head')
     × (ShiftDemands pool head before after shifts shifts' refusal head' → StoreDemands pool parts_for head before after refusal head')
-    × (TranchesDemands pool head tranches count before after answer head' → StoreDemands pool parts_for head before after answer.refusal head')
-    × (LayerDemands pool head i j before after layer head' → StoreDemands pool parts_for head before after layer.refusal head')
+    × (TranchesDemands pool head tranches count before after answer head' → StoreDemands pool parts_for head before after (refusal_number answer.outcome) head')
+    × (LayerDemands pool head i j before after layer head' → StoreDemands pool parts_for head before after (refusal_number layer) head')
     × (CheckDemands pool head claims before after verdict head' → StoreDemands pool parts_for head before after (refusal_of verdict) head')
     × (ScreenColumnDemands pool head before after units units' refusal head' → StoreDemands pool (λ _. 1000000) head before after refusal head')
-    × (ScreenTranchesDemands pool head tranches count before after answer head' → StoreDemands pool (λ _. 1000000) head before after answer.refusal head')
+    × (ScreenTranchesDemands pool head tranches count before after answer head' → StoreDemands pool (λ _. 1000000) head before after (refusal_number answer.outcome) head')
 each_fills pool head head' before after refusal count i j units units' claims shifts shifts' tranches answer layer verdict = (
   λ demands. demands.store,
   λ demands. demands.leaves.store,

@@ -1,6 +1,6 @@
 -- The contract of each call implies what is demanded of it.
 -- Assumes nothing.
-use Rattle.std.specs.Prelude.{ℕ, suc, ◌+◌, ◌-◌, ◌*◌, ◌/◌, ◌≤◌, ◌<◌, ◌≡◌, ◌⊎◌, List, length, get_or, drop, ℤ, Float}
+use Rattle.std.specs.Prelude.{Result, ℕ, suc, ◌+◌, ◌-◌, ◌*◌, ◌/◌, ◌≤◌, ◌<◌, ◌≡◌, ◌⊎◌, List, length, get_or, drop, ℤ, Float}
 use Rattle.std.proofs.Math.Path.{refl, sym, subst}
 use Rattle.std.proofs.Common.{ap, ◌∙◌, inl, inr, arith, lit<, lit≤, length-take, length-take-le, get_or-take}
 use Rattle.std.proofs.Math.Bridge.{le_prop}
@@ -45,12 +45,13 @@ use Rattle.rows.specs.Store.{filled_side, stored}
 use Rattle.rows.specs.Store.Laws.{stored_length}
 use Rattle.grounds.specs.Grounds.{Ground, first_ground, column_grounds, EachAtLeast}
 use Rattle.grounds.specs.Grounds.Laws.{row_accepted, entries_accepted, layer_accepted}
-use Rattle.store.specs.declared.Pool.{Pool}
+use Rattle.steps.specs.declared.Pool.{Pool}
 use Rattle.expected_losses.specs.declared.Loss.{Loss}
 use Rattle.expected_losses.specs.declared.Loss.TheVariants.{Untouched, Faint, Shown}
-use Rattle.expected_losses.specs.declared.TrancheLoss.{TrancheLoss}
-use Rattle.expected_losses.specs.declared.Answer.{Answer}
-use Rattle.layer_losses.specs.declared.LayerAnswer.{LayerAnswer}
+use Rattle.pool.specs.declared.losses.Answer.{Answer}
+use Rattle.grounds.specs.declared.refusal.Refusal.{Refusal}
+use Rattle.grounds.specs.Refusals.{refusal_number}
+use Rattle.pool.specs.Answers.{loss_in}
 use Rattle.store.specs.Stores.{Store, store, lengths, side_of, place, store_after}
 use Rattle.store.specs.Calls.{Fills, fill_refusal, HandsRow, row_refusal}
 use Rattle.store.proofs.Calls.Laws.{fills_kept, fills_head, fills_accepted}
@@ -266,9 +267,9 @@ loss_meets parts low high v (Shown bounds) says =
     record { low_not_below = says.low_not_below; lower_is = bits_meet says.lower_is; upper_is = bits_meet says.upper_is }
 
 -- What stands at a place of the answer, and what the contract says of it.
-at_place : (losses : List TrancheLoss) (i : ℕ) → get_or (losses_in losses) i untouched ≡ loss_of (get_or losses i (record { loss = Untouched })).loss
+at_place : (losses : List Loss) (i : ℕ) → get_or (losses_in losses) i untouched ≡ loss_of (get_or losses i Untouched)
 unfolding losses_in loss_of
-at_place losses i = get_or-map (λ l. loss_of l.loss) losses i (record { loss = Untouched })
+at_place losses i = get_or-map loss_of losses i Untouched
 
 untouched_there : (loss : Loss) → loss_of loss ≡ untouched → loss ≡ Untouched
 unfolding loss_of
@@ -396,12 +397,12 @@ module _ (tranches : List Tranche) (count : ℕ) (touch : Touch tranches count) 
 
 -- The losses that any call answers, for eight tranches.
 pub losses_meet : {parts p : ℕ} {r : Chances} {c : Side → ℕ → Kept} {tranches : List Tranche} {count : ℕ} (answer : Answer) → length tranches ≡ 8
-    → RepliesLosses parts p r c (take count tranches) answer.refusal (losses_in answer.losses) → LossesDemands parts p r c tranches count answer
+    → RepliesLosses parts p r c (take count tranches) (refusal_number answer.outcome) (losses_in answer.losses) → LossesDemands parts p r c tranches count answer
 unfolding tranche_places losses_in
 losses_meet {parts} {p} {r} {c} {tranches} {count} answer eight replies = record {
   eight =
-      sym (length-map answer.losses (λ l. loss_of l.loss)) ∙ ap length replies.losses_are
-      ∙ answer_length r.assets c (take count tranches) answer.refusal (omega (arith, length-take count tranches, eight));
+      sym (length-map answer.losses loss_of) ∙ ap length replies.losses_are
+      ∙ answer_length r.assets c (take count tranches) (refusal_number answer.outcome) (omega (arith, length-take count tranches, eight));
   within = λ none i l m.
       let holds = replies.holds_losses none in
       let asked : i < length (take count tranches) = omega (arith, length-take count tranches, eight) in
@@ -417,7 +418,7 @@ losses_meet {parts} {p} {r} {c} {tranches} {count} answer eight replies = record
 module _ {pool head head' : Pool} {tranches : List Tranche} {count : ℕ} {before after : Store} (answer : Answer) where
   -- Whatever list refuses, at any distances.
   pub tranches_meet_by : {refuses : Pool → List Tranche → ℕ → Store → ℕ} {parts : ℕ → ℕ} {grounds : List Ground} → length tranches ≡ 8
-      → Replies refuses parts pool head tranches count before after answer.refusal head' (losses_in answer.losses)
+      → Replies refuses parts pool head tranches count before after (refusal_number answer.outcome) head' (losses_in answer.losses)
       → refuses pool tranches count before ≡ first_ground grounds → TranchesDemandsBy pool head tranches count parts grounds (slices before) (slices after) answer head'
   tranches_meet_by eight replies first = record {
     one = record { number = replies.fills.refusal_is ∙ first; untouched = store_kept replies.fills };
@@ -425,7 +426,7 @@ module _ {pool head head' : Pool} {tranches : List Tranche} {count : ℕ} {befor
     losses = losses_meet answer eight replies.replies;
   }
 
-  pub tranches_meet : length tranches ≡ 8 → Replies loss_refusal distance_for pool head tranches count before after answer.refusal head' (losses_in answer.losses)
+  pub tranches_meet : length tranches ≡ 8 → Replies loss_refusal distance_for pool head tranches count before after (refusal_number answer.outcome) head' (losses_in answer.losses)
       → TranchesDemands pool head tranches count (slices before) (slices after) answer head'
   unfolding loss_refusal lengths largest_pool up_to fine_pool distance_for parts_for
   tranches_meet eight replies = tranches_meet_by eight replies refl
@@ -443,15 +444,15 @@ layer_loss_meets {r} {i} {j} loss layer holds = record {
       record { wide = wide; same = layer_tranche r i j A B layer.from layer.order lower upper wide };
 }
 
-pub layer_meets : {pool head head' : Pool} {i j : ℕ} {before after : Store} (answer : LayerAnswer)
-    → LayerReplies pool head i j before after answer.refusal head' (loss_of answer.loss) → LayerDemands pool head i j (slices before) (slices after) answer head'
+pub layer_meets : {pool head head' : Pool} {i j : ℕ} {before after : Store} (answer : Result Loss Refusal)
+    → LayerReplies pool head i j before after (refusal_number answer) head' (loss_of (loss_in answer)) → LayerDemands pool head i j (slices before) (slices after) answer head'
 unfolding defaults layer_refusal lengths largest_pool up_to fine_pool distance_for parts_for over whole
 layer_meets {pool} {i} {j} answer replies =
     let accepted = layer_accepted largest_pool _ _ _ _ _ _ replies.fills.refusal_is in
     record {
       one = record { number = replies.fills.refusal_is; untouched = store_kept replies.fills };
       store = store_meets replies.fills;
-      layer = λ none. layer_loss_meets answer.loss (accepted none).layer (replies.replies.holds_loss none);
+      layer = λ none. layer_loss_meets (loss_in answer) (accepted none).layer (replies.replies.holds_loss none);
       of_all = λ none.
           let given = (accepted none).fill.pool in
           record { cross = (defaults_layer pool.probability pool.correlation given.range.probability given.range.correlation pool.assets given.not_empty).cross };

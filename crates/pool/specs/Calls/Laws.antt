@@ -35,7 +35,7 @@ use Rattle.layer_losses.specs.Layer.{LayerReady}
 use Rattle.layer_losses.specs.Layer.Ready.{layer_ready}
 use Rattle.grounds.specs.Grounds.{first_ground, TranchesAccepted}
 use Rattle.grounds.specs.Grounds.Laws.{loss_accepted, loss_grounds_within}
-use Rattle.store.specs.declared.Pool.{Pool}
+use Rattle.steps.specs.declared.Pool.{Pool}
 use Rattle.store.specs.Stores.{Store}
 use Rattle.store.proofs.Calls.Laws.{fills_untouched, fills_once, fills_apart}
 use Rattle.pool.specs.Calls.{PrintsRow, RepliesLosses, RepliesLayer, column_refusal, Prints, loss_refusal, Replies, layer_refusal, LayerReplies}

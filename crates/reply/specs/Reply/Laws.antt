@@ -1,7 +1,7 @@
 -- From what the calls promise to the text of the reply.
 -- Assumes nothing.
-use Rattle.std.specs.Prelude.{ℕ, suc, ◌≤◌, ◌<◌, ◌≡◌, refl, List, length, take, drop}
-use Rattle.std.proofs.Common.{sym, ap, ◌∙◌, le_refl, arith, length-append, length-take, take_all, take_at}
+use Rattle.std.specs.Prelude.{ℕ, suc, ◌≤◌, ◌<◌, ◌≡◌, refl, List, length, take}
+use Rattle.std.proofs.Common.{ap, ◌∙◌, le_refl, arith, length-append, length-take, take_all}
 use Rattle.std.proofs.Math.Decide.{dec_le}
 use Rattle.model.specs.Number.{triangle}
 use Rattle.model.specs.CorrelatedBinomial.{defaults}
@@ -10,40 +10,38 @@ use Rattle.steps.specs.Column.{printed_row, tenths}
 use Rattle.steps.specs.CorrelatedBinomial.{kept_defaults}
 use Rattle.steps.specs.Inputs.{report_pool, distance_for, tenths_for}
 use Rattle.steps.specs.Promises.{HoldsColumn}
-use Rattle.grounds.specs.Grounds.{first_ground, pool_grounds, PoolAccepted, EachAtLeast}
-use Rattle.grounds.specs.Grounds.Laws.{report_accepted, column_answered}
-use Rattle.store.specs.declared.Pool.{Pool}
+use Rattle.grounds.specs.declared.refusal.Refusal.{Refusal}
+use Rattle.grounds.specs.Refusals.{number_of}
+use Rattle.grounds.proofs.Refusals.{refusal_some}
+use Rattle.grounds.specs.Grounds.{first_ground, pool_grounds, EachAtLeast}
+use Rattle.grounds.specs.Grounds.Laws.{pool_accepted, report_accepted, column_answered}
+use Rattle.steps.specs.declared.Pool.{Pool}
 use Rattle.store.specs.Stores.{Store, lengths}
 use Rattle.pool.specs.Calls.{column_refusal, Prints}
 use Rattle.text.specs.Line.{Accepts}
 use Rattle.text.specs.Line.Laws.{one_line}
-use Rattle.text.specs.Table.{column_text, refused_text, refused_line, Writes}
+use Rattle.text.specs.Table.{column_text, refused_text, refused_line}
 use Rattle.text.specs.Table.Laws.{column_text_lem}
-use Rattle.reply.specs.declared.Reply.{Reply}
-use Rattle.reply.specs.Reply.{AnswersPool, AnswersInput, AnswersStart, Carries}
+use Rattle.reply.specs.Reply.{AnswersPool, AnswersInput, AnswersStart}
 
--- A reply carries the text that was written into it.
-pub carried : {Answers : List ℕ → Type 0} {text before : List ℕ} {reply : Reply} → Writes text before reply.text reply.length → Answers text → Carries Answers reply
-carried {Answers} {text} {before} {reply} written answers =
-    let rest : List ℕ = drop (length text) before in
-    let parts : take reply.length reply.text ≡ text = rw (written.content, written.count) (take_at text rest (length text) refl) in
-    record {
-      within = omega (arith, written.count, ap length written.content, length-append text rest);
-      count = written.count ∙ ap length (sym parts);
-      answers = rw parts answers;
-    }
-
--- With slices that have room for the largest pool of a report, a column call answers for every pool that a report accepts.
-pub answered : {pool head head' : Pool} {before after : Store} {units units' : List ℕ} {refusal : ℕ}
+-- With slices that have room for the largest pool of a report, a column call prints the column of every pool that a report accepts.
+pub column_printed : {pool head head' : Pool} {before after : Store} {units units' : List ℕ} {refusal : ℕ}
     → Prints column_refusal distance_for pool head before after units units' refusal head'
-    → PoolAccepted report_pool pool.assets pool.probability pool.correlation → EachAtLeast (triangle (suc report_pool)) (lengths before)
-    → report_pool < length units → refusal ≡ 0
+    → first_ground (pool_grounds report_pool pool.assets pool.probability pool.correlation) ≡ 0 → EachAtLeast (triangle (suc report_pool)) (lengths before)
+    → report_pool < length units
+    → HoldsColumn (tenths (tenths_for pool.assets)) (defaults pool.assets pool.probability pool.correlation)
+    (kept_defaults Low pool.assets pool.probability pool.correlation) units'
 unfolding column_refusal
-answered prints pool store column = prints.fills.refusal_is ∙ column_answered _ _ _ _ _ _ _ (report_accepted pool) pool.range.assets store column
+column_printed {pool = pool} prints none store column =
+    let accepted = pool_accepted report_pool pool.assets pool.probability pool.correlation refl none in
+    prints.prints.holds_column (prints.fills.refusal_is ∙ column_answered _ _ _ _ _ _ _ (report_accepted accepted) accepted.range.assets store column)
 
 module _ {n p ρ : ℕ} where
   pub refused_answer : {refusal : ℕ} → refusal ≡ first_ground (pool_grounds report_pool n p ρ) → (refusal ≡ 0 → ⊥) → AnswersPool n p ρ (refused_text refusal)
   refused_answer is some = record { refused = λ _. ap refused_text is; table = λ none. absurd (some (is ∙ none)) }
+
+  pub refusal_answer : (refusal : Refusal) → number_of refusal ≡ first_ground (pool_grounds report_pool n p ρ) → AnswersPool n p ρ (refused_text (number_of refusal))
+  refusal_answer refusal is = refused_answer is (refusal_some refusal)
 
   pub table_answer : {units : List ℕ} → first_ground (pool_grounds report_pool n p ρ) ≡ 0
       → HoldsColumn (tenths (tenths_for n)) (defaults n p ρ) (kept_defaults Low n p ρ) units → AnswersPool n p ρ (column_text n units)
@@ -60,8 +58,8 @@ module _ {input : List ℕ} where
     line = λ n p ρ other. let same = one_line line other in rw (← same.0, ← same.1, ← same.2) answers;
   }
 
-  pub no_line_answer : ((n p ρ : ℕ) → Accepts input n p ρ → ⊥) → AnswersInput input refused_line
-  no_line_answer none = record { no_line = λ _. refl; line = λ n p ρ line. absurd (none n p ρ line) }
+  pub no_line_answer : {text : List ℕ} → ((n p ρ : ℕ) → Accepts input n p ρ → ⊥) → text ≡ refused_line → AnswersInput input text
+  no_line_answer none is = record { no_line = λ _. is; line = λ n p ρ line. absurd (none n p ρ line) }
 
 -- A line has at most 18 bytes.
 input_length : {input : List ℕ} {n p ρ : ℕ} → Accepts input n p ρ → length input ≤ 18
@@ -79,10 +77,15 @@ start_answers m input text enough answers =
     ]
 
 -- What answers the bytes that a buffer of more than 18 holds answers every input that starts with them.
-pub buffer_answers : {buffer part : List ℕ} {count : ℕ} {reply : Reply} → part ≡ take count buffer → 18 < length buffer → Carries (AnswersInput part) reply
-    → Carries (AnswersStart buffer count) reply
-buffer_answers {buffer} is enough carries = record {
-  within = carries.within;
-  count = carries.count;
-  answers = record { every = λ input same. start_answers (length buffer) input _ enough (rw (same, ← is) carries.answers) };
+pub buffer_answers : {buffer part text : List ℕ} {count : ℕ} → part ≡ take count buffer → 18 < length buffer → AnswersInput part text
+    → AnswersStart buffer count text
+buffer_answers {buffer} is enough answers = record { every = λ input same. start_answers (length buffer) input _ enough (rw (same, ← is) answers) }
+
+-- An input that ends before the buffer does is what the buffer holds of it.
+pub part_answers : {buffer part text : List ℕ} {count : ℕ} → part ≡ take count buffer → count < length buffer → AnswersInput part text
+    → AnswersStart buffer count text
+part_answers {buffer} {count = count} is within answers = record {
+  every = λ input same.
+      let short : length input ≤ length buffer = omega (arith, length-take (length buffer) input, length-take count buffer, ap length same) in
+      rw (← take_all (length buffer) input short, same, ← is) answers;
 }

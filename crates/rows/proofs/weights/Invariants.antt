@@ -1,8 +1,9 @@
 -- At the loop's head the weights below j are put.
-use Rattle.working.specs.Slices.{side_store}
+use Rattle.working.specs.Lent.{numbers_mut, SameSlices}
 use Rattle.rows.specs.Turns.Laws.{Weighing}
 use Rattle.rows.proofs.weights.Given as goal
 
 abbrev pub invariant-loop-j : goal.invariant-loop-j
 invariant-loop-j l =
-    Weighing l.side l.n l.p l.rho l.j l.a l.q l.power (side_store l.fn.significands l.fn.exponents) (side_store l.significands l.exponents)
+    SameSlices l.fn.numbers l.numbers
+    × Weighing l.side l.fn.pool.assets l.fn.pool.probability l.fn.pool.correlation l.j l.a l.q l.power (numbers_mut l.fn.numbers) (numbers_mut l.numbers)

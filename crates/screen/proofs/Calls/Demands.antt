@@ -4,10 +4,11 @@ use Rattle.std.specs.Prelude.{ℕ, ◌≡◌, refl, List, length}
 use Rattle.std.proofs.Common.{sym, ap, ◌∙◌, arith}
 use Rattle.steps.specs.declared.Tranche.{Tranche}
 use Rattle.steps.specs.Inputs.{largest_pool, screen_pool, screen_distance}
-use Rattle.expected_losses.specs.declared.Answer.{Answer}
+use Rattle.pool.specs.declared.losses.Answer.{Answer}
+use Rattle.grounds.specs.Refusals.{refusal_number}
 use Rattle.expected_losses.specs.Loss.{losses_in}
-use Rattle.expected_losses.specs.Loss.Laws.{one_answer}
-use Rattle.store.specs.declared.Pool.{Pool}
+use Rattle.pool.proofs.Answers.{one_answer}
+use Rattle.steps.specs.declared.Pool.{Pool}
 use Rattle.store.specs.Stores.{Store, store, lengths}
 use Rattle.pool.specs.Calls.{column_refusal, loss_refusal}
 use Rattle.pool.specs.Calls.Laws.{prints_once, replies_once}
@@ -27,7 +28,7 @@ screen_column_meets prints = record {
 }
 
 pub screen_tranches_meet : {pool head head' : Pool} {tranches : List Tranche} {count : ℕ} {before after : Store} (answer : Answer) → length tranches ≡ 8
-    → ScreenReplies pool head tranches count before after answer.refusal head' (losses_in answer.losses)
+    → ScreenReplies pool head tranches count before after (refusal_number answer.outcome) head' (losses_in answer.losses)
     → ScreenTranchesDemands pool head tranches count (slices before) (slices after) answer head'
 unfolding screen_loss_refusal loss_refusal lengths store largest_pool screen_pool screen_distance
 screen_tranches_meet answer eight replies = record {

@@ -1,14 +1,14 @@
 -- `tranche_losses` meets its contract.
 use Rattle.steps.specs.Inputs.{largest_pool, screen_pool}
 use Rattle.screen.specs.Calls.Laws.{losses_refused, losses_handed_over}
+use Rattle.grounds.proofs.Refusals.{err_some, ok_none}
 use Rattle.screen.proofs.tranche_losses.Goals as goal
 
-pub returns-then-refusal-ne0 : goal.returns-then-refusal-ne0
+pub returns-then-is_err-clause-replies : goal.returns-then-is_err-clause-replies
 unfolding largest_pool screen_pool
-returns-then-refusal-ne0 c =
-    let answer = c.refused-answer.ensures in
-    rw answer.refusal_is (losses_refused c.screen_refusal-refusal.ensures c.if-refusal-ne0.true answer.losses_are)
+returns-then-is_err-clause-replies c =
+    losses_refused c.screen_refusal-outcome.ensures (err_some _ c.is_err.ensures.value c.if-is_err.true) c.untouched-losses.ensures
 
-pub returns : goal.returns
+pub returns-clause-replies : goal.returns-clause-replies
 unfolding largest_pool screen_pool
-returns c = losses_handed_over c.screen_refusal-refusal.ensures c.if-refusal-ne0.false c.tranche_losses.ensures
+returns-clause-replies c = losses_handed_over c.screen_refusal-outcome.ensures (ok_none _ c.is_err.ensures.value c.if-is_err.false) c.tranche_losses.ensures.replies

@@ -9,7 +9,7 @@ use Rattle.steps.specs.Inputs.{largest_pool, distance_for, screen_pool}
 use Rattle.steps.proofs.CorrelatedBinomial.Theorems.{screen_budgets}
 use Rattle.grounds.specs.Grounds.{first_ground, assets_ground, screen_ground, screen_column_grounds, screened, screen_loss_grounds}
 use Rattle.grounds.specs.Grounds.Laws.{loss_grounds_within, column_starts, loss_starts, screens, screens_at, screens_within, screen_refused, screen_within}
-use Rattle.store.specs.declared.Pool.{Pool}
+use Rattle.steps.specs.declared.Pool.{Pool}
 use Rattle.store.specs.Stores.{Store}
 use Rattle.pool.specs.Calls.{column_refusal, Prints, loss_refusal, Replies}
 use Rattle.pool.specs.Calls.Laws.{prints_untouched, replies_untouched, replies_once, prints_apart, replies_apart}

@@ -16,7 +16,7 @@ use Rattle.steps.specs.Inputs.{up_to, report_pool, fine_pool, distance_for, shif
 use Rattle.steps.specs.Promises.{HoldsShifts}
 use Rattle.grounds.specs.Grounds.{shift_grounds}
 use Rattle.grounds.specs.Grounds.Laws.{entries_accepted}
-use Rattle.store.specs.declared.Pool.{Pool}
+use Rattle.steps.specs.declared.Pool.{Pool}
 use Rattle.store.specs.Stores.{Store, lengths}
 use Rattle.pool.specs.Demands.{parts_for, one_and_three_tenths, Demand3Shifts, ShiftDemands}
 use Rattle.pool.proofs.Demands.Theorems.{slices, steps_meet, entries_meet, printed_meet}

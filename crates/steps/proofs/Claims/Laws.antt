@@ -18,9 +18,7 @@ use Rattle.kept.specs.Whole.Laws.{whole_is, whole_at_most}
 use Rattle.steps.specs.Column.{units_of_certainty, exact_units, half, to_nearest, AtMostApart}
 use Rattle.steps.proofs.Column.Laws.{units_order, nearest_more_than}
 use Rattle.steps.specs.Enclosure.{Enclosed}
-use Rattle.steps.specs.declared.Verdict.{Verdict}
-use Rattle.steps.specs.declared.Verdict.TheVariants.{Refused, Passed, Fails}
-use Rattle.steps.specs.Claims.{Passes, passes, first_to_fail, refusal_in, row_passes, RowPasses, verdict_on, verdict_after, Means}
+use Rattle.steps.specs.Claims.{Passes, passes, first_to_fail, refusal_in, row_passes, RowPasses, verdict_on, verdict_after, Means, VerdictAnswer, refused_by, all_pass, fails_at}
 
 -- ---- the test of a row
 
@@ -113,10 +111,10 @@ passes_halves low high claim = rw (least_claimed low claim, most_claimed high cl
 -- ---- the first row to fail
 
 -- What is first among the rows from one on, up to another.
-abbrev First : (test : ℕ → Bool) (start end : ℕ) → Verdict → Type 0
-First test start end (Refused number) = ⊥
-First test start end Passed = (i : ℕ) → start ≤ i → i < end → test i ≡ true
-First test start end (Fails k) = (k < end) × (test k ≡ false) × ((i : ℕ) → start ≤ i → i < k → test i ≡ true)
+abbrev First : (test : ℕ → Bool) (start end : ℕ) → VerdictAnswer → Type 0
+First test start end (refused_by number) = ⊥
+First test start end all_pass = (i : ℕ) → start ≤ i → i < end → test i ≡ true
+First test start end (fails_at k) = (k < end) × (test k ≡ false) × ((i : ℕ) → start ≤ i → i < k → test i ≡ true)
 
 module _ (test : ℕ → Bool) where
   passed_one : (k : ℕ) → test k ≡ true → {end : ℕ} → ((i : ℕ) → suc k ≤ i → i < end → test i ≡ true) → (i : ℕ) → k ≤ i → i < end → test i ≡ true
@@ -125,13 +123,13 @@ module _ (test : ℕ → Bool) where
     | no more ↦ let is : i ≡ k = omega arith in rw is passed
   ]
 
-  first_earlier : (k end : ℕ) → test k ≡ true → (v : Verdict) → First test (suc k) end v → First test k end v
-  first_earlier k end passed (Refused number) first = first
-  first_earlier k end passed Passed first = passed_one k passed first
-  first_earlier k end passed (Fails j) first = (first.0, first.1, passed_one k passed first.2)
+  first_earlier : (k end : ℕ) → test k ≡ true → (v : VerdictAnswer) → First test (suc k) end v → First test k end v
+  first_earlier k end passed (refused_by number) first = first
+  first_earlier k end passed all_pass first = passed_one k passed first
+  first_earlier k end passed (fails_at j) first = (first.0, first.1, passed_one k passed first.2)
 
   -- By whether row k passes, from what is first after it.
-  first_after : (rows k : ℕ) (v : Verdict) → First test (suc k) (suc k + rows) v → (t : Bool) → test k ≡ t → First test k (k + suc rows) (cond t v (Fails k))
+  first_after : (rows k : ℕ) (v : VerdictAnswer) → First test (suc k) (suc k + rows) v → (t : Bool) → test k ≡ t → First test k (k + suc rows) (cond t v (fails_at k))
   first_after rows k v later true passed =
       let one_more : suc k + rows ≡ k + suc rows = omega arith in
       first_earlier k (k + suc rows) passed v (rw one_more at later)
@@ -143,10 +141,10 @@ module _ (test : ℕ → Bool) where
   first_is (suc rows) k = first_after rows k (first_to_fail test rows (suc k)) (first_is rows (suc k)) (test k) refl
 
   -- Where every row passes, none fails.
-  none_fails : (end : ℕ) → ((i : ℕ) → i < end → test i ≡ true) → (v : Verdict) → First test 0 end v → v ≡ Passed
-  none_fails end every (Refused number) first = absurd first
-  none_fails end every Passed first = refl
-  none_fails end every (Fails k) first = absurd (true≢false (sym (every k first.0) ∙ first.1))
+  none_fails : (end : ℕ) → ((i : ℕ) → i < end → test i ≡ true) → (v : VerdictAnswer) → First test 0 end v → v ≡ all_pass
+  none_fails end every (refused_by number) first = absurd first
+  none_fails end every all_pass first = refl
+  none_fails end every (fails_at k) first = absurd (true≢false (sym (every k first.0) ∙ first.1))
 
 -- Tests that agree on the rows have the same first.
 first_same : {test other : ℕ → Bool} (rows k : ℕ) → ((i : ℕ) → i < k + rows → test i ≡ other i) → first_to_fail test rows k ≡ first_to_fail other rows k
@@ -161,26 +159,26 @@ module _ (n : ℕ) (c : Side → ℕ → Kept) (claims : List ℕ) where
   unfolding verdict_on
   first_on = rw (zero-add (suc n)) at (first_is (row_passes c claims) (suc n) 0)
 
-  pub verdict_refused : (refusal : ℕ) → (refusal ≡ 0 → ⊥) → Refused refusal ≡ verdict_after n c claims refusal
+  pub verdict_refused : (refusal : ℕ) → (refusal ≡ 0 → ⊥) → refused_by refusal ≡ verdict_after n c claims refusal
   unfolding verdict_after
   verdict_refused zero some = absurd (some refl)
   verdict_refused (suc refusal) some = refl
 
-  no_refusal : (v : Verdict) → First (row_passes c claims) 0 (suc n) v → refusal_in v ≡ 0
+  no_refusal : (v : VerdictAnswer) → First (row_passes c claims) 0 (suc n) v → refusal_in v ≡ 0
   unfolding refusal_in
-  no_refusal (Refused number) first = absurd first
-  no_refusal Passed first = refl
-  no_refusal (Fails k) first = refl
+  no_refusal (refused_by number) first = absurd first
+  no_refusal all_pass first = refl
+  no_refusal (fails_at k) first = refl
 
   -- The verdict on claimed rows is no refusal.
   pub verdict_number : refusal_in (verdict_on n c claims) ≡ 0
   verdict_number = no_refusal (verdict_on n c claims) first_on
 
   module _ (order : (k : ℕ) → k ≤ n → AtMost (value (c Low k)) (value (c High k))) where
-    first_means : (v : Verdict) → First (row_passes c claims) 0 (suc n) v → Means n c claims 0 v
-    first_means (Refused number) first = absurd first
-    first_means Passed first = record { none = refl; every = λ k l. test_passes (order k l) (first k (omega arith) (omega arith)) }
-    first_means (Fails k) first = record {
+    first_means : (v : VerdictAnswer) → First (row_passes c claims) 0 (suc n) v → Means n c claims 0 v
+    first_means (refused_by number) first = absurd first
+    first_means all_pass first = record { none = refl; every = λ k l. test_passes (order k l) (first k (omega arith) (omega arith)) }
+    first_means (fails_at k) first = record {
       none = refl;
       within = omega (arith, first.0);
       fails = λ passed. true≢false (sym (passes_test passed) ∙ first.1);
@@ -192,7 +190,7 @@ module _ (n : ℕ) (c : Side → ℕ → Kept) (claims : List ℕ) where
     verdict_means = first_means (verdict_on n c claims) first_on
 
   -- A column each of whose rows passes.
-  pub every_passes : ((k : ℕ) → k ≤ n → RowPasses c claims k) → verdict_on n c claims ≡ Passed
+  pub every_passes : ((k : ℕ) → k ≤ n → RowPasses c claims k) → verdict_on n c claims ≡ all_pass
   every_passes every = none_fails (row_passes c claims) (suc n) (λ i l. passes_test (every i (omega arith))) (verdict_on n c claims) first_on
 
 -- Rows behind the last play no part.

@@ -38,8 +38,7 @@ use Rattle.steps.specs.declared.Tranche.{Tranche}
 use Rattle.steps.specs.Tranches.{tranche_at, lowers, uppers, TranchesInRange, TranchesTouch, TranchesWide, tranche_loss, tranche_losses, exact_total, bound_total, carried_total}
 use Rattle.steps.proofs.Tranches.Laws.{tranche_loss_is, losses_at, losses_past, total_on_side}
 use Rattle.steps.specs.Layers.{loss_of_layer}
-use Rattle.steps.specs.declared.Verdict.{Verdict}
-use Rattle.steps.specs.Claims.{RowPasses, verdict_on}
+use Rattle.steps.specs.Claims.{RowPasses, verdict_on, VerdictAnswer}
 use Rattle.steps.proofs.First.Laws.{first_holds}
 use Rattle.steps.specs.Attachments.{AttachmentAnswer, tranche_from, attachment_on}
 use Rattle.steps.proofs.Claims.Laws.{every_passes, near_passes, passed_near, nearest_near}
@@ -218,7 +217,7 @@ module _ {g : ℕ} {r : Chances} {c : Side → ℕ → Kept} (enclosed : RowEncl
   pub chances_ordered : (k : ℕ) → k ≤ r.assets → AtMost (value (c Low k)) (value (c High k))
   chances_ordered k l = at_most_trans (enclosed.chances l).from_below (enclosed.chances l).from_above
 
-  pub verdict_holds : {claims : List ℕ} {verdict : Verdict} → verdict ≡ verdict_on r.assets c claims → HoldsVerdict r c claims verdict
+  pub verdict_holds : {claims : List ℕ} {verdict : VerdictAnswer} → verdict ≡ verdict_on r.assets c claims → HoldsVerdict r c claims verdict
   verdict_holds {claims} is =
       let near : (k : ℕ) → k ≤ r.assets → AtMostApart half (integer (get_or claims k 0)) (exact_units (chance r k)) → RowPasses c claims k = λ k l.
       near_passes (enclosed.chances l).from_below (enclosed.chances l).from_above in

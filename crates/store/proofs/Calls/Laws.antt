@@ -21,7 +21,7 @@ use Rattle.rows.specs.Store.{stored}
 use Rattle.rows.specs.Store.Laws.{filled_entry}
 use Rattle.grounds.specs.Grounds.{FillAccepted}
 use Rattle.grounds.specs.Grounds.Laws.{fill_accepted, fill_answered, row_accepted}
-use Rattle.store.specs.declared.Pool.{Pool}
+use Rattle.steps.specs.declared.Pool.{Pool}
 use Rattle.store.specs.Stores.{Store, lengths, place, store_after}
 use Rattle.store.specs.Stores.Laws.{place_triangle, store_untouched, filled_holds}
 use Rattle.store.specs.Calls.{fill_refusal, head_after, Fills, row_refusal, part_after, HandsRow}

@@ -28,7 +28,7 @@ use Rattle.planes.specs.Planes.{byte_of, byte_in, word_at, pattern, signed, AreB
 use Rattle.planes.specs.Planes.Laws.{byte_back, word_of_bytes, word_below, bytes_behind, pattern_signed, pattern_below, signed_pattern, laid_bytes}
 use Rattle.planes.specs.Sides.Laws.{side_arrays_same, side_later}
 use Rattle.planes.specs.Sides.{number_in, FitsTypes}
-use Rattle.store.specs.declared.Pool.{Pool}
+use Rattle.steps.specs.declared.Pool.{Pool}
 use Rattle.store.specs.Stores.{Store, store, lengths, side_of, place}
 use Rattle.store.specs.Stores.Laws.{place_triangle}
 use Rattle.pool.specs.Demands.{kept_zero, Slices, lent, store_of, lengths_of, number_on, from, StoreDemands, TableDemands, byte_from, complement, from_complement, table_places}

@@ -2,7 +2,7 @@
 -- Assumes nothing.
 use Prim.Native.Nat.{ℕ, zero, suc, ◌+◌, ◌-◌, ◌^◌, ◌≤◌, ◌<◌}
 use Rattle.std.specs.Prelude.{◌≡◌, true, List}
-use Rattle.std.proofs.Math.Path.{refl, sym, ap, subst}
+use Rattle.std.proofs.Math.Path.{refl, sym, ap, ap₂, subst}
 use Rattle.std.proofs.Common.{◌∙◌, inl, inr, arith, le-leb}
 use Rattle.std.proofs.Math.Decide.{dec_le}
 use Rattle.std.proofs.Math.ListN.{length}
@@ -15,20 +15,20 @@ use Rattle.kept.specs.declared.Side.TheVariants.{Low, High}
 use Rattle.kept.specs.Rounding.{nought, IsKept}
 use Rattle.steps.specs.Exponents.{Ranged}
 use Rattle.steps.specs.Inputs.{largest_pool}
-use Rattle.working.specs.Slices.{SideStore, number_at}
+use Rattle.working.specs.Slices.{SideStore, number_at, HasPlaces}
 use Rattle.grounds.specs.Grounds.{first_ground, file_grounds, store_places, file_bytes, is_kept, EachAtLeast, AllKept, FillAccepted, FileAccepted}
 use Rattle.grounds.specs.Grounds.Laws.{store_places_lem, file_accepted, file_answered}
 use Rattle.planes.specs.Planes.{AreBytes}
-use Rattle.planes.specs.Sides.{FitsTypes, AllFit}
+use Rattle.planes.specs.Sides.{side_after, FitsTypes, AllFit}
 use Rattle.planes.specs.Sides.Laws.{side_arrays_same, side_number, side_lengths}
-use Rattle.store.specs.declared.Pool.{Pool}
+use Rattle.steps.specs.declared.Pool.{Pool}
 use Rattle.store.specs.Stores.{Store, lengths, side_of, place, HoldsEntries}
 use Rattle.store.specs.Stores.Laws.{place_triangle, enclosed_same}
 use Rattle.store.specs.Calls.{head_after, Fills}
 use Rattle.store.proofs.Calls.Laws.{head_untouched, fills_head, fills_accepted}
 use Rattle.store_file.specs.Files.{file_arrays, file_of, head_in, entry_in, entries_in, store_with}
 use Rattle.store_file.specs.Files.Laws.{laid_bytes, head_read, entry_read, file_from_parts, entry_fits, side_from}
-use Rattle.store_file.specs.Calls.Rooms.{StoreRoom, form_room, file_places}
+use Rattle.store_file.specs.Calls.Rooms.{form_room, file_places}
 use Rattle.store_file.specs.Calls.{write_refusal, read_refusal, file_after, store_after_read, WritesBytes, ReadsBytes, Written, SameNumbers, WritesFile, ReadsFile}
 
 -- ---- the outcome of a call
@@ -36,6 +36,14 @@ use Rattle.store_file.specs.Calls.{write_refusal, read_refusal, file_after, stor
 -- A store of two sides.
 abbrev pub both : SideStore → SideStore → Store
 both low high = record { low = low; high = high }
+
+-- What reading each side leaves.
+pub both_read : (file : List ℕ) (before : Store) {after : Store} {low high : SideStore}
+    → low ≡ side_after (store_places (head_in file).assets) (entries_in Low file) before.low
+    → high ≡ side_after (store_places (head_in file).assets) (entries_in High file) before.high → after.low ≡ low → after.high ≡ high
+    → after ≡ store_with file before
+unfolding store_with
+both_read file before low high low_left high_left = ap₂ both (low_left ∙ low) (high_left ∙ high)
 
 -- On either side.
 pub on_each : (P : (ℕ → Kept) → Type 0) (s : Store) → P (number_at s.low) → P (number_at s.high) → (side : Side) → P (number_at (side_of side s))
@@ -181,14 +189,14 @@ module _ {head head' : Pool} {file : List ℕ} {before after : Store} {refusal :
         by_side Low = side_number _ (entries_in Low file) before.low i l
         by_side High = side_number _ (entries_in High file) before.high i l
 
-    room_read : StoreRoom (store_places (head_in file).assets) before
-    room_read = form_room before reads_accepted.form
+    room_read : (side : Side) → HasPlaces (store_places (head_in file).assets) (side_of side before)
+    room_read side = form_room side before reads_accepted.form
 
     pub reads_lengths : lengths after ≡ lengths before
     unfolding store_with lengths side_of
     reads_lengths =
-        let low = side_lengths _ (entries_in Low file) before.low (room_read.on Low) in
-        let high = side_lengths _ (entries_in High file) before.high (room_read.on High) in
+        let low = side_lengths _ (entries_in Low file) before.low (room_read Low) in
+        let high = side_lengths _ (entries_in High file) before.high (room_read High) in
         rw (reads_store, low.significands, low.exponents, high.significands, high.exponents) refl
 
     places_below : (i : ℕ) → i < triangle (suc (head_in file).assets) → i < store_places (head_in file).assets

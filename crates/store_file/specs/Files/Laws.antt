@@ -17,7 +17,7 @@ use Rattle.planes.specs.Planes.{laid, arrays_in, words, word_at, signed, AreByte
 use Rattle.planes.specs.Planes.Laws.{laid_length, arrays_laid, laid_arrays, bytes_behind, word_below, pattern_signed, signed_pattern, signed_fits, pattern_below}
 use Rattle.planes.specs.Sides.{word_of, array_of, side_arrays, number_in, FitsTypes}
 use Rattle.planes.specs.Sides.Laws.{array_length}
-use Rattle.store.specs.declared.Pool.{Pool}
+use Rattle.steps.specs.declared.Pool.{Pool}
 use Rattle.store_file.specs.Files.{file_arrays, head_in, entry_in}
 
 -- How many numbers each array of a file has.

@@ -1,8 +1,7 @@
 -- A field of the line: a number and the byte that ends it.
 -- Assumes nothing.
-use Rattle.std.specs.Prelude.{ℕ, ◌+◌, ◌≤◌, ◌≡◌, List, ◌∷◌, ◌++◌, length, drop}
-use Rattle.text.specs.declared.line.Field.{Field}
-use Rattle.text.specs.declared.line.Field.TheVariants.{Missing, Number}
+use Rattle.std.specs.Prelude.{ℕ, ◌+◌, ◌≤◌, ◌≡◌, List, ◌∷◌, ◌++◌, length, Option, Some, None}
+use Rattle.std.specs.Borrow.{Bor}
 use Rattle.text.specs.Line.{Digits, value_from}
 pub mod Laws
 
@@ -19,7 +18,7 @@ pub record Completes (end count value : ℕ) (text : List ℕ) (number : ℕ) (r
 abbrev pub Begins : (end : ℕ) (text : List ℕ) (number : ℕ) (rest : List ℕ) → Type 0
 Begins end text number rest = Completes end 0 0 text number rest
 
--- The answer at a place of the input: the number of the field that begins there and the place after it, or that none does.
-abbrev pub ReadsField : (input : List ℕ) (at end : ℕ) → Field → Type 0
-ReadsField input at end (Number number next) = (next ≤ length input) × Begins end (drop at input) number (drop next input)
-ReadsField input at end Missing = (number : ℕ) (rest : List ℕ) → Begins end (drop at input) number rest → ⊥
+-- The answer to a text: the number of the field that it begins with and the rest, if it begins with one.
+abbrev pub ReadsField : (end : ℕ) (text : List ℕ) → Option (ℕ × Bor (List ℕ)) → Type 0
+ReadsField end text (Some field) = Begins end text field.0 field.1.now
+ReadsField end text None = (number : ℕ) (rest : List ℕ) → Begins end text number rest → ⊥

@@ -1,10 +1,9 @@
 -- A line is three fields and nothing after, and no input has two answers.
 -- Assumes nothing.
-use Rattle.std.specs.Prelude.{ℕ, ◌<◌, ◌≡◌, refl, List, [], ◌∷◌, ◌++◌}
+use Rattle.std.specs.Prelude.{ℕ, ◌<◌, ◌≡◌, refl, List, [], ◌∷◌, ◌++◌, Option, Some, None}
 use Prim.Native.Char.{code}
-use Rattle.std.proofs.Common.{arith, lit<}
-use Rattle.text.specs.declared.line.Line.{Line}
-use Rattle.text.specs.declared.line.Line.TheVariants.{Refused, Inputs}
+use Rattle.std.proofs.Common.{ap, arith, lit<}
+use Rattle.steps.specs.declared.Pool.{Pool}
 use Rattle.text.specs.Line.{Decimal, Accepts, ReadsLine}
 use Rattle.text.specs.Line.Fields.{Begins}
 use Rattle.text.specs.Line.Fields.Laws.{one_field}
@@ -68,9 +67,13 @@ one_line line line' = elim (fields line) [
       (first.0, second.0, (after (lit< tt) c second.1).0)
 ]
 
+pools : {n p ρ n' p' ρ' : ℕ} → n ≡ n' → p ≡ p' → ρ ≡ ρ'
+    → ◌≡◌ {A = Pool} (record { assets = n; probability = p; correlation = ρ }) (record { assets = n'; probability = p'; correlation = ρ' })
+pools assets probability correlation = rw (assets, probability, correlation)
+
 -- An input has one answer.
-pub one_answer : (input : List ℕ) (a b : Line) → ReadsLine input a → ReadsLine input b → a ≡ b
-one_answer input (Inputs n p ρ) (Inputs n' p' ρ') line line' = let same = one_line line line' in rw (same.0, same.1, same.2)
-one_answer input (Inputs n p ρ) Refused line refused = absurd (refused n p ρ line)
-one_answer input Refused (Inputs n p ρ) refused line = absurd (refused n p ρ line)
-one_answer input Refused Refused refused refused' = refl
+pub one_answer : (input : List ℕ) (a b : Option Pool) → ReadsLine input a → ReadsLine input b → a ≡ b
+one_answer input (Some a) (Some b) line line' = let same = one_line line line' in ap Some (pools same.0 same.1 same.2)
+one_answer input (Some pool) None line no_line = absurd (no_line _ _ _ line)
+one_answer input None (Some pool) no_line line = absurd (no_line _ _ _ line)
+one_answer input None None no_line no_line' = refl

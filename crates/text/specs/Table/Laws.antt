@@ -8,7 +8,7 @@ use Rattle.std.proofs.Common.{ap, sym, ◌∙◌, lt-ltb, le-ltb, pow-suc, arith
 use Rattle.std.proofs.Math.Decide.{dec_lt}
 use Rattle.model.specs.Number.Laws.{between_first, between_none}
 use Rattle.text.specs.Line.{Digit, Digits, none, more, value_from}
-use Rattle.text.specs.Table.{digit, digits_by_steps, decimal, field_text, lines, row_of, tail_of, table_text, column_text}
+use Rattle.text.specs.Table.{digit, digits_by_steps, decimal, field_text, line, lines, row_of, tail_of, table_text, column_text}
 
 enough : (steps steps' number : ℕ) → number < steps → number < steps' → digits_by_steps steps number ≡ digits_by_steps steps' number
 unfolding digits_by_steps
@@ -37,9 +37,23 @@ decimal_length (suc d) number small = elim (dec_lt number 10) [
       rw (decimal_more number (omega arith), length-append) (omega (arith, decimal_length d (number / 10) tenth))
 ]
 
+pub nine_digits : (number : ℕ) → number < 10 ^ 9 → length (decimal number) ≤ 9
+nine_digits = decimal_length 8
+
 pub field_length : (d number end : ℕ) → number < 10 ^ suc d → length (field_text number end) ≤ suc (suc d)
 unfolding field_text
 field_length d number end small = rw length-append (omega (arith, decimal_length d number small))
+
+pub short_field : (number end : ℕ) → number ≤ 99 → length (field_text number end) ≤ 3
+short_field number end small = field_length 1 number end (omega arith)
+
+pub line_length : (defaults row tail : ℕ) → defaults ≤ 99 → row ≤ 100000 → tail ≤ 100000 → length (line defaults row tail) ≤ 17
+unfolding line
+line_length defaults row tail few row_small tail_small =
+    let first = short_field defaults (code " ") few in
+    let second = field_length 5 row (code " ") (omega arith) in
+    let third = field_length 5 tail (code "\n") (omega arith) in
+    simp length-append (omega arith)
 
 -- Digits that write a number.
 pub record Written (digits : List ℕ) (number : ℕ) : Type 0 where

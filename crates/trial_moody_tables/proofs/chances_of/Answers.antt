@@ -7,10 +7,6 @@ use Rattle.steps.proofs.CorrelatedBinomial.Theorems.{within, placed}
 use Rattle.chances.specs.Chances.Ready.{steps_ready}
 use Rattle.trial_moody_tables.proofs.chances_of.Goals as goal
 
-pub last_row-row-requires : goal.last_row-row-requires
-unfolding working_assets whole
-last_row-row-requires c = record { assets = omega (arith, c.requires.assets); probability = omega arith; correlation = omega (arith, c.requires.correlation) }
-
 pub chances-requires : goal.chances-requires
 unfolding largest_pool working_assets whole defaults
 chances-requires c = steps_ready (within (search rules)) (placed (search rules)) (omega arith) _ c.last_row-row.ensures

@@ -1,6 +1,6 @@
--- At the loop's head the tails past n − i are stored, and the total is the first of them.
-use Rattle.chances.specs.Tails.Laws.{TailsPast}
+-- At the loop's head the tails at j and past it are stored, and the total is the first of them.
+use Rattle.chances.specs.Tails.Laws.{TailsFrom}
 use Rattle.chances.proofs.tails.tails.Given as goal
 
-abbrev pub invariant-loop-i : goal.invariant-loop-i
-invariant-loop-i l = TailsPast l.side l.n l.i l.chances l.total l.tails
+abbrev pub invariant-loop-j : goal.invariant-loop-j
+invariant-loop-j l = TailsFrom l.side l.n l.j l.chances l.total l.tails

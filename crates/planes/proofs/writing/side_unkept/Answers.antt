@@ -1,14 +1,11 @@
 -- `side_unkept` meets its contract.
-use Rattle.std.proofs.Common.{sym, ap, ◌∙◌}
-use Rattle.grounds.specs.Grounds.{is_kept}
-use Rattle.grounds.specs.Grounds.Laws.{kept_all, none_unkept, some_unkept_lem}
+use Rattle.std.proofs.Common.{rules}
+use Rattle.std.proofs.iter.runs.Sources.{ranges}
+use Rattle.planes.specs.Sides.Laws.{unkept_found}
 use Rattle.planes.proofs.writing.side_unkept.Goals as goal
 
-pub returns-then-not-is_kept-clause-value : goal.returns-then-not-is_kept-clause-value
-returns-then-not-is_kept-clause-value c =
-    sym
-    (some_unkept_lem _ _ c.loop-i.i c.loop-i-test.true
-    (sym (c.is_kept.ensures.test ∙ ap is_kept c.number_at.ensures) ∙ c.if-not-is_kept.true))
-
 pub returns-clause-value : goal.returns-clause-value
-returns-clause-value c = sym (none_unkept _ _ (kept_all c.loop-i.auto.i-end c.loop-i-test.false c.loop-i.invariant.kept))
+returns-clause-value c = unkept_found _ _ (λ some. search (rules, ranges)) (λ none i l. search (rules, ranges, c.any.ensures.runs.0.reads i 0))
+
+pub returns-clause-all_fit : goal.returns-clause-all_fit
+returns-clause-all_fit c = λ none. record { at = λ i l. search (rules, ranges, c.any.ensures.runs.0.reads i 0) }

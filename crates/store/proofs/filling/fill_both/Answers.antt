@@ -1,8 +1,8 @@
 -- `fill_both` meets its contract.
-use Rattle.std.proofs.Common.{refl}
+use Rattle.std.proofs.Common.{refl, rules}
 use Rattle.kept.specs.declared.Side.TheVariants.{Low, High}
-use Rattle.store.specs.Stores.{store, side_of, store_after}
-use Rattle.store.specs.Filling.Laws.{fillable}
+use Rattle.store.specs.Stores.{store, side_of}
+use Rattle.store.specs.Filling.Laws.{fillable, both_filled}
 use Rattle.store.proofs.filling.fill_both.Goals as goal
 
 pub fill_side-low-requires : goal.fill_side-low-requires
@@ -13,9 +13,6 @@ pub fill_side-high-requires : goal.fill_side-high-requires
 unfolding store side_of
 fill_side-high-requires c = fillable High _ c.requires
 
-pub returns : goal.returns
-unfolding store store_after
-returns c =
-    let low = c.fill_side-low.ensures in
-    let high = c.fill_side-high.ensures in
-    record { store_is = rw (low.store_is, high.store_is) refl; low_row = low.last; high_row = high.last }
+pub returns-clause-filled : goal.returns-clause-filled
+unfolding store
+returns-clause-filled c = both_filled c.fill_side-low.ensures.filled c.fill_side-high.ensures.filled refl refl (search rules) (search rules)

@@ -1,7 +1,7 @@
 -- `row` meets its contract.
 use Rattle.std.proofs.Common.{ℕ, List, ◌≡◌, ◌+◌, ◌-◌, ◌≤◌, length, sym, ◌∙◌, rules, arith, add-zero}
 use Rattle.model.specs.Number.{triangle}
-use Rattle.steps.specs.Inputs.{largest_pool}
+use Rattle.grounds.proofs.Refusals.{err_some, ok_none}
 use Rattle.store.specs.Stores.{place}
 use Rattle.store.specs.Stores.Laws.{place_triangle}
 use Rattle.store.specs.Calls.{row_refusal}
@@ -17,42 +17,36 @@ ends : {first refusal : ℕ} (n k : ℕ) (significands : List ℕ) → first ≡
     → first + k + 1 ≤ length significands
 ends n k significands first is none = rw (start k first) (omega (arith, row_within n k significands (sym is ∙ none)))
 
-pub returns-then-refusal-ne0 : goal.returns-then-refusal-ne0
-unfolding row_refusal largest_pool
-returns-then-refusal-ne0 c =
+pub returns-then-is_err : goal.returns-then-is_err
+returns-then-is_err c =
     let given = c.args in
     hands_row given.n given.k given.significands.now
-    (part_refused given.n given.k given.significands.now c.row_refusal-refusal.ensures c.if-refusal-ne0.true)
+    (part_refused given.n given.k given.significands.now c.row_refusal.ensures (err_some _ c.is_err.ensures.value c.if-is_err.true))
 
 pub overflow_add-end : goal.overflow_add-end
-unfolding row_refusal largest_pool
 overflow_add-end c =
-    let end = ends c.args.n c.args.k c.args.significands.now c.row_start-first.ensures c.row_refusal-refusal.ensures c.if-refusal-ne0.false in
+    let end = ends c.args.n c.args.k c.args.significands.now c.row_start-first.ensures c.row_refusal.ensures (ok_none _ c.is_err.ensures.value c.if-is_err.false) in
     record { fits = omega arith }
 
 pub overflow_add-end-2 : goal.overflow_add-end-2
-unfolding row_refusal largest_pool
 overflow_add-end-2 c =
-    let end = ends c.args.n c.args.k c.args.significands.now c.row_start-first.ensures c.row_refusal-refusal.ensures c.if-refusal-ne0.false in
+    let end = ends c.args.n c.args.k c.args.significands.now c.row_start-first.ensures c.row_refusal.ensures (ok_none _ c.is_err.ensures.value c.if-is_err.false) in
     record { fits = omega arith }
 
 pub offset_bounds-significands-first : goal.offset_bounds-significands-first
-unfolding row_refusal largest_pool
 offset_bounds-significands-first c =
-    let end = ends c.args.n c.args.k c.args.significands.now c.row_start-first.ensures c.row_refusal-refusal.ensures c.if-refusal-ne0.false in
+    let end = ends c.args.n c.args.k c.args.significands.now c.row_start-first.ensures c.row_refusal.ensures (ok_none _ c.is_err.ensures.value c.if-is_err.false) in
     record { fits = omega arith }
 
 pub slice_bounds-result-end-2 : goal.slice_bounds-result-end-2
-unfolding row_refusal largest_pool
 slice_bounds-result-end-2 c =
-    let end = ends c.args.n c.args.k c.args.significands.now c.row_start-first.ensures c.row_refusal-refusal.ensures c.if-refusal-ne0.false in
+    let end = ends c.args.n c.args.k c.args.significands.now c.row_start-first.ensures c.row_refusal.ensures (ok_none _ c.is_err.ensures.value c.if-is_err.false) in
     search rules
 
 pub returns : goal.returns
-unfolding row_refusal largest_pool
 returns c =
     let given = c.args in
     let first = c.row_start-first.result in
     hands_row given.n given.k given.significands.now
-    (part_accepted given.n given.k given.significands.now c.row_refusal-refusal.ensures c.if-refusal-ne0.false
+    (part_accepted given.n given.k given.significands.now c.row_refusal.ensures (ok_none _ c.is_err.ensures.value c.if-is_err.false)
     (first + given.k + 1 - first) first (omega arith) (start given.k c.row_start-first.ensures))

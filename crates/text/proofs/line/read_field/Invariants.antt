@@ -1,10 +1,6 @@
--- `read_field` meets its contract. The loop keeps that the field at the start is what the text at the place completes.
-use Rattle.std.proofs.Common.{◌-◌, length, drop}
+-- Each byte so far is a digit of the value.
 use Rattle.text.specs.Line.Fields.Laws.{Reading}
 use Rattle.text.proofs.line.read_field.Given as goal
 
-abbrev pub invariant-loop-next : goal.invariant-loop-next
-invariant-loop-next l = Reading l.end (drop l.at l.input) l.digits l.value (drop l.next l.input)
-
-abbrev pub decreases-loop-next : goal.decreases-loop-next
-decreases-loop-next l = length l.input - l.next
+abbrev pub invariant-loop-digits : goal.invariant-loop-digits
+invariant-loop-digits l = Reading l.end l.text l.digits l.value

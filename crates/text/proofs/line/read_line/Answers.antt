@@ -1,39 +1,35 @@
--- `read_line` meets its contract: a line can only have the fields that were found.
+-- `read_line` meets its contract: a line can only have the fields that were found, and nothing after them.
 use Prim.Native.Char.{code}
-use Rattle.std.proofs.Common.{ℕ, ◌≤◌, ◌≡◌, ap, List, [], ◌∷◌, arith, lit<, length, drop, length-drop}
+use Rattle.std.proofs.Common.{ℕ, ◌≡◌, List, [], ◌∷◌, length, ap, arith, lit<}
+use Rattle.std.proofs.lemmas.Bool.Decides.{nat_tests}
 use Rattle.text.specs.Line.{Accepts}
 use Rattle.text.specs.Line.Fields.{Begins}
 use Rattle.text.specs.Line.Laws.{Fields, fields, after, no_field_first, nothing_after}
 use Rattle.text.proofs.line.read_line.Goals as goal
 
--- Whatever line the input is, its fields after the first one, and after the second.
-past_first : {input rest : List ℕ} {number n p ρ : ℕ} → Begins (code " ") input number rest → Accepts input n p ρ
-    → Fields (code " " ∷ code "\n" ∷ []) (p ∷ ρ ∷ []) rest
-past_first first line = (after (lit< tt) first (fields line)).1
+module _ {input first_rest : List ℕ} {assets n p ρ : ℕ} (first : Begins (code " ") input assets first_rest) (line : Accepts input n p ρ) where
+  past_first : Fields (code " " ∷ code "\n" ∷ []) (p ∷ ρ ∷ []) first_rest
+  past_first = (after (lit< tt) first (fields line)).1
 
-past_second : {input between rest : List ℕ} {number number' n p ρ : ℕ} → Begins (code " ") input number between
-    → Begins (code " ") between number' rest → Accepts input n p ρ → Fields (code "\n" ∷ []) (ρ ∷ []) rest
-past_second first second line = (after (lit< tt) second (past_first first line)).1
+  module _ {probability : ℕ} {second_rest : List ℕ} (second : Begins (code " ") first_rest probability second_rest) where
+    past_second : Fields (code "\n" ∷ []) (ρ ∷ []) second_rest
+    past_second = (after (lit< tt) second past_first).1
 
--- A line ends where its third field does.
-ends_there : (input : List ℕ) (end : ℕ) {one two : List ℕ} {number number' number'' n p ρ : ℕ} → Begins (code " ") input number one
-    → Begins (code " ") one number' two → Begins (code "\n") two number'' (drop end input) → end ≤ length input
-    → Accepts input n p ρ → end ≡ length input
-ends_there input end first second third within line =
-    let nothing = nothing_after (after (lit< tt) third (past_second first second line)).1 in
-    omega (arith, ap length nothing, length-drop end input)
+    past_third : {correlation : ℕ} {rest : List ℕ} → Begins (code "\n") second_rest correlation rest → rest ≡ []
+    past_third third = nothing_after (after (lit< tt) third past_second).1
 
-pub returns-in_default : goal.returns-in_default
-returns-in_default c = λ n p ρ line. no_field_first c.in_default.ensures (fields line)
+pub returns-in_err-assets : goal.returns-in_err-assets
+returns-in_err-assets c = rw c.from_residual.ensures (λ n p ρ line. no_field_first c.in_err-assets.ensures (fields line))
 
-pub returns-in_default-read_field : goal.returns-in_default-read_field
-returns-in_default-read_field c = λ n p ρ line. no_field_first c.in_default-read_field.ensures (past_first c.in-Number.ensures.1 line)
+pub returns-in_err-probability : goal.returns-in_err-probability
+returns-in_err-probability c = rw c.from_residual-in_err-probability.ensures (λ n p ρ line.
+    no_field_first c.in_err-probability.ensures (past_first c.in_ok-assets.ensures line))
 
-pub returns-in_default-read_field-2 : goal.returns-in_default-read_field-2
-returns-in_default-read_field-2 c = λ n p ρ line.
-    no_field_first c.in_default-read_field-2.ensures (past_second c.in-Number.ensures.1 c.in-Number-read_field.ensures.1 line)
+pub returns-in_err-correlation : goal.returns-in_err-correlation
+returns-in_err-correlation c = rw c.from_residual-in_err-correlation.ensures (λ n p ρ line.
+    no_field_first c.in_err-correlation.ensures (past_second c.in_ok-assets.ensures line c.in_ok-probability.ensures))
 
-pub returns-else-end-input : goal.returns-else-end-input
-returns-else-end-input c = λ n p ρ line.
-    let third = c.in-Number-read_field-2.ensures in
-    c.if-end-input.false (ends_there c.args.input.now c.in-Number-read_field-2.end c.in-Number.ensures.1 c.in-Number-read_field.ensures.1 third.1 third.0 line)
+pub returns-then-not-is_empty : goal.returns-then-not-is_empty
+returns-then-not-is_empty c = λ n p ρ line.
+    let nothing = ap length (past_third c.in_ok-assets.ensures line c.in_ok-probability.ensures c.in_ok-correlation.ensures) in
+    grind (arith, nat_tests)

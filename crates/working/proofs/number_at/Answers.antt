@@ -1,9 +1,0 @@
--- `number_at` meets its contract.
-use Rattle.std.proofs.Common.{arith}
-use Rattle.std.proofs.lemmas.Grind.{common_steps}
-use Rattle.working.specs.Slices.{number_at}
-use Rattle.working.proofs.number_at.Goals as goal
-
-pub returns : goal.returns
-unfolding number_at
-returns c = grind (arith, common_steps)
