@@ -8,7 +8,7 @@
 // 6: writes a file; a head, the lengths of the four slices, and how many bytes of the buffer are lent.
 // 7: reads a file; the same.
 // 8: compares the buffer with a data file; the number that is its name.
-// 9: puts a data file in the buffer; the same.
+// 9, and any other kind: puts a data file in the buffer; the same.
 //
 // tools/trial_files.py writes the steps and the data files, and works the same lines out in exact whole numbers.
 #![tactic(auto)]
@@ -37,15 +37,16 @@ fn run_next(
     arrays: &mut Arrays,
     buffer: &mut [u8; BUFFER],
 ) -> io::Result<Pool> {
-    match read_number(rt)? {
+    let kind = read_number(rt)?;
+    match kind {
+        0..=2 => return run_step(rt, kind, head, arrays),
         3 => run_bytes(rt, buffer)?,
         4 => run_put(rt, buffer)?,
         5 => run_entry(rt, arrays)?,
         6 => run_write(rt, head, arrays, buffer)?,
         7 => return run_read(rt, head, arrays, buffer),
         8 => run_compare(rt, buffer)?,
-        9 => run_load(rt, buffer)?,
-        kind => return run_step(rt, kind, head, arrays),
+        _ => run_load(rt, buffer)?,
     }
     Ok(head)
 }
