@@ -33,6 +33,13 @@ puts_both {first} {second} {before} {at = at} a b = record {
   content = rw (sets_append first second before at, ← a.content, ← a.place) b.content;
 }
 
+pub room_first : {first buffer : List ℕ} {at : ℕ} (second : List ℕ) → HasRoom (first ++ second) at buffer → HasRoom first at buffer
+room_first {first} second room = record { room = omega (arith, length-append first second, room.room) }
+
+pub room_second : {first second before between : List ℕ} {at middle : ℕ} → HasRoom (first ++ second) at before → Puts first at before between middle
+    → HasRoom second middle between
+room_second {first} {second} room put = record { room = omega (arith, length-append first second, room.room, put.place, puts_length put) }
+
 -- Bytes that fill the whole buffer are what it holds.
 pub puts_whole : {bytes before after : List ℕ} {next : ℕ} → length before ≡ length bytes → Puts bytes 0 before after next → after ≡ bytes
 puts_whole {bytes} {before} same put =
