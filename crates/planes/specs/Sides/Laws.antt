@@ -2,21 +2,21 @@
 -- Assumes nothing.
 use Rattle.std.specs.Prelude.{ℕ, zero, suc, ◌+◌, ◌*◌, ◌≤◌, ◌<◌, ◌≡◌, Bool, true, false, drop}
 use Rattle.std.proofs.Math.Path.{refl, sym}
-use Rattle.std.proofs.Common.{ap, ap₂, ◌∙◌, add-one, mul-le-mul_right, arith}
+use Rattle.std.proofs.Common.{ap, ap₂, subst, ◌∙◌, add-one, mul-le-mul_right, arith, below_more}
 use mathlib.Core.List.{List, [], ◌∷◌, ◌++◌, map, map-append, append_assoc}
 use Rattle.std.proofs.Math.ListN.{length, length-append, length-map}
 use Rattle.kept.specs.declared.Kept.{Kept}
 use Rattle.kept.specs.Rounding.{nought}
 use Rattle.working.specs.Slices.{tabulate, SideStore, number_at, HasPlaces, SameLengths, Stored}
 use Rattle.working.proofs.Slices.Laws.{length_tabulate, get_d_tabulate, tabulate_same, overwritten_field, overwritten_length, overwritten_later, holding_none}
-use Rattle.buffer.specs.Stores.{Puts, puts_none, puts_both}
+use Rattle.buffer.specs.Stores.{HasRoom, Puts, puts_none, puts_both, puts_length}
 use Rattle.grounds.specs.Grounds.{is_kept, some_unkept}
 use Rattle.grounds.specs.Grounds.Laws.{none_unkept, some_unkept_lem}
 use Rattle.planes.specs.declared.words.Part.{Part}
 use Rattle.planes.specs.declared.words.Part.TheVariants.{Significand, Exponent}
 use Rattle.planes.specs.Planes.{byte_of, planes, laid}
 use Rattle.planes.specs.Planes.Laws.{planes_length}
-use Rattle.planes.specs.Sides.{word_of, array_of, side_arrays, side_after}
+use Rattle.planes.specs.Sides.{word_of, array_of, side_arrays, side_after, FitsTypes, AllFit}
 
 pub array_length : (part : Part) (m : ℕ) (f : ℕ → Kept) → length (array_of part m f) ≡ m
 unfolding array_of
@@ -42,10 +42,26 @@ module _ (part : Part) (k : ℕ) (f : ℕ → Kept) {at : ℕ} {before : List �
   plane_none = puts_none at before
 
   module _ (i : ℕ) {next : ℕ} {after : List ℕ} (put : PutsPlane part k i f at before after next) where
+    pub plane_room : (m byte : ℕ) → i < m → HasRoom (map (byte_of k) (array_of part m f)) at before → HasRoom (byte ∷ []) next after
+    plane_room m byte l room =
+        record { room = omega (arith, room.room, put.place, puts_length put, plane_length part k i f, plane_length part k m f) }
+
     pub plane_more : {byte next' : ℕ} {after' : List ℕ} → byte ≡ byte_of k (word_of part (f i)) → Puts (byte ∷ []) next after after' next'
         → PutsPlane part k (i + 1) f at before after' next'
     unfolding array_of tabulate
     plane_more is byte_put = rw (add-one i, map-append, ← is) (puts_both put byte_put)
+
+    pub plane_all : (m : ℕ) → i ≤ m → m ≤ i → PutsPlane part k m f at before after next
+    plane_all m most least = let same : i ≡ m = omega arith in subst (λ (j : ℕ). PutsPlane part k j f at before after next) same put
+
+pub fit_none : {f : ℕ → Kept} → AllFit 0 f
+fit_none = record { at = λ i l. absurd (omega arith) }
+
+pub fit_more : {i : ℕ} {f : ℕ → Kept} → AllFit i f → FitsTypes (f i) → AllFit (i + 1) f
+fit_more {i} {f} all next = record { at = below_more (λ j. FitsTypes (f j)) i all.at next }
+
+pub fit_all : {m i : ℕ} {f : ℕ → Kept} → m ≤ i → AllFit i f → AllFit m f
+fit_all most all = record { at = λ j l. all.at j (omega arith) }
 
 -- The first k planes of numbers.
 unfoldable pub first_planes : (k : ℕ) → List ℕ → List ℕ
