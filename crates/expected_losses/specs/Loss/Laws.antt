@@ -32,10 +32,13 @@ use Rattle.expected_losses.specs.Loss.{UnitsMade, LossReady, LossMade, loss_of, 
 
 -- ---- loss units
 
--- The product of two numbers of basis points fits a word.
-pub basis_points_word : {x y : ℕ} → x ≤ whole → y ≤ whole → Fits w32 (x * y)
+-- The product of two numbers of basis points fits an i32, and so a word.
+pub basis_points_signed : {x y : ℕ} → x ≤ whole → y ≤ whole → x * y < 2 ^ 31
 unfolding whole
-basis_points_word l m = record { fits = omega (arith, mul-le-mul l m) }
+basis_points_signed l m = omega (arith, mul-le-mul l m)
+
+pub basis_points_word : {x y : ℕ} → x ≤ whole → y ≤ whole → Fits w32 (x * y)
+basis_points_word l m = record { fits = omega (arith, basis_points_signed l m) }
 
 -- ---- loss units in kept numbers
 
