@@ -52,6 +52,10 @@ module _ {A : Type 0} {one : A} {plus : A → A → A} where
       here_is : get_or w j d ≡ pascal_row one plus k j
       here_is = done.changed.old d j (le_refl j) (omega arith) ∙ done.start.entry d j (omega arith)
 
+      -- What holds of the entries of row k holds of both that are added.
+      pub pascal_added : (P : A → Type 0) → ((i : ℕ) → i ≤ k → P (pascal_row one plus k i)) → P before × P (get_or w j d)
+      pascal_added P holds = (rw done.neighbour (holds (j - 1) (omega arith)), rw here_is (holds j l))
+
       pascal_sum : plus before (get_or w j d) ≡ pascal_row one plus (suc k) j
       pascal_sum = rw (done.neighbour, here_is) (pascal_next one plus done.from l)
 
@@ -80,6 +84,10 @@ pub words_add : (k j : ℕ) → k < exact_assets → 1 ≤ j → j ≤ k → pas
 unfolding exact_assets
 words_add k j few from l =
     rw (pascal_next 1 ◌+◌ from l, pascal_choose (suc k) j (omega arith)) (lt_of_lt_of_le (choose_below k j) (pow_mono few))
+
+pub pascal_word : {k j : ℕ} {row w : List ℕ} {before : ℕ} → PascalBelow 1 ◌+◌ k j row w before → j ≤ k → k < working_places → k < exact_assets
+    → before + get_or w j 0 < 2 ^ 64
+pascal_word {k} {j} done l few exact = rw (done.neighbour, here_is done l few 0) (words_add k j exact done.from l)
 
 -- Sums of kept numbers have exponents in their range.
 pub kept_add : (side : Side) (k j : ℕ) → k < working_assets → 1 ≤ j → j ≤ k
