@@ -3,7 +3,8 @@
 use Rattle.std.specs.Prelude.{ℕ, ◌+◌, ◌*◌, ◌-◌, ◌≤◌, ◌<◌, ◌^◌, ◌≡◌, ◌⊎◌, refl, List, [], ◌∷◌, ◌++◌, length, drop, get_or, slice_range}
 use Prim.Native.Char.{code}
 use Rattle.std.proofs.Math.Decide.{dec_lt}
-use Rattle.std.proofs.Common.{inl, inr, ap, subst, pow-suc, add-one, arith, length-append, drop-cons, drop_of_length-le, take_all, length-drop}
+use Rattle.std.proofs.Common.{inl, inr, ap, subst, pow-suc, lt_of_lt_of_le, add-one, arith, lit<, lit≤, length-append, drop-cons, drop_of_length-le, take_all, length-drop}
+use Rattle.std.proofs.Math.Nat.{pow-le-pow_right}
 use Rattle.text.specs.Line.{Digit, Digits, none, more, value_from}
 use Rattle.text.specs.Line.Fields.{Completes, Begins}
 
@@ -41,6 +42,12 @@ pub record Reading (end : ℕ) (text : List ℕ) (count value : ℕ) : Type 0 wh
   pub began : {number : ℕ} {rest : List ℕ} → Completes end count value (drop count text) number rest → Begins end text number rest
   pub few : count ≤ 5
   pub below : value < 10 ^ count
+
+pub reading_none : {end : ℕ} (text : List ℕ) → Reading end text 0 0
+reading_none text = record { goes_on = λ c. c; began = λ c. c; few = lit≤ tt; below = lit< tt }
+
+pub reading_small : {end count value : ℕ} {text : List ℕ} → Reading end text count value → count < 5 → value < 10 ^ 4
+reading_small {count = count} reading few = lt_of_lt_of_le reading.below (pow-le-pow_right (lit< tt) {i = count} {j = 4} (omega arith))
 
 -- A text from an index on is the byte there and what follows it.
 split : (text : List ℕ) (k : ℕ) → k < length text → drop k text ≡ get_or text k 0 ∷ drop (k + 1) text
