@@ -2,6 +2,7 @@
 -- Assumes nothing.
 use Rattle.std.specs.Prelude.{ℕ, ◌≤◌, ◌≡◌, List, length, take}
 use Rattle.store.specs.declared.Store.{Store}
+pub mod Laws
 
 -- Two lists have so many places, and the same numbers in them.
 pub record Same {A : Type 0} (count : ℕ) (xs ys : List A) : Type 0 where
