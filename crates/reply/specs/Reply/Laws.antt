@@ -13,7 +13,7 @@ use Rattle.steps.specs.Promises.{HoldsColumn}
 use Rattle.grounds.specs.declared.refusal.Refusal.{Refusal}
 use Rattle.grounds.specs.Refusals.{number_of}
 use Rattle.grounds.proofs.Refusals.{refusal_some}
-use Rattle.grounds.specs.Grounds.{first_ground, pool_grounds, EachAtLeast}
+use Rattle.grounds.specs.Grounds.{first_ground, pool_grounds, PoolAccepted, EachAtLeast}
 use Rattle.grounds.specs.Grounds.Laws.{pool_accepted, report_accepted, column_answered}
 use Rattle.steps.specs.declared.Pool.{Pool}
 use Rattle.store.specs.Stores.{Store, lengths}
@@ -24,17 +24,23 @@ use Rattle.text.specs.Table.{column_text, refused_text, refused_line}
 use Rattle.text.specs.Table.Laws.{column_text_lem}
 use Rattle.reply.specs.Reply.{AnswersPool, AnswersInput, AnswersStart}
 
--- With slices that have room for the largest pool of a report, a column call prints the column of every pool that a report accepts.
+-- With slices that have room for the largest pool of a report, a column call answers for every pool that a report accepts.
+pub answered : {pool head head' : Pool} {before after : Store} {units units' : List ℕ} {refusal : ℕ}
+    → Prints column_refusal distance_for pool head before after units units' refusal head'
+    → PoolAccepted report_pool pool.assets pool.probability pool.correlation → EachAtLeast (triangle (suc report_pool)) (lengths before)
+    → report_pool < length units → refusal ≡ 0
+unfolding column_refusal
+answered prints pool store column = prints.fills.refusal_is ∙ column_answered _ _ _ _ _ _ _ (report_accepted pool) pool.range.assets store column
+
+-- With such slices it prints the column of every pool that a report accepts.
 pub column_printed : {pool head head' : Pool} {before after : Store} {units units' : List ℕ} {refusal : ℕ}
     → Prints column_refusal distance_for pool head before after units units' refusal head'
     → first_ground (pool_grounds report_pool pool.assets pool.probability pool.correlation) ≡ 0 → EachAtLeast (triangle (suc report_pool)) (lengths before)
     → report_pool < length units
     → HoldsColumn (tenths (tenths_for pool.assets)) (defaults pool.assets pool.probability pool.correlation)
     (kept_defaults Low pool.assets pool.probability pool.correlation) units'
-unfolding column_refusal
 column_printed {pool = pool} prints none store column =
-    let accepted = pool_accepted report_pool pool.assets pool.probability pool.correlation refl none in
-    prints.prints.holds_column (prints.fills.refusal_is ∙ column_answered _ _ _ _ _ _ _ (report_accepted accepted) accepted.range.assets store column)
+    prints.prints.holds_column (answered prints (pool_accepted report_pool pool.assets pool.probability pool.correlation refl none) store column)
 
 module _ {n p ρ : ℕ} where
   pub refused_answer : {refusal : ℕ} → refusal ≡ first_ground (pool_grounds report_pool n p ρ) → (refusal ≡ 0 → ⊥) → AnswersPool n p ρ (refused_text refusal)
