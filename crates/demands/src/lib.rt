@@ -5,9 +5,8 @@
 ghost use Rattle.std.specs.Prelude.{◌≡◌, ℕ, length};
 ghost use Rattle.grounds.specs.Grounds.{first_ground, row_grounds};
 ghost use Rattle.grounds.specs.Refusals.{refusal_number};
-ghost use Rattle.column_check.specs.Answers.{verdict_in};
 ghost use Rattle.pool.specs.Demands.{BetaColumnDemands, BetaTranchesDemands};
-ghost use Rattle.pool.specs.Demands.{FillDemands, RowDemands, ColumnDemands, ShiftDemands, TranchesDemands, LayerDemands, CheckDemands, ScreenColumnDemands, ScreenTranchesDemands, DeskDemands, WriteDemands, ReadDemands};
+ghost use Rattle.pool.specs.Demands.{FillDemands, RowDemands, ColumnDemands, ShiftDemands, TranchesDemands, LayerDemands, loss_told, CheckDemands, ScreenColumnDemands, ScreenTranchesDemands, DeskDemands, WriteDemands, ReadDemands};
 ghost use Rattle.store.specs.Lent.{SameStore};
 ghost use Rattle.demands.specs.Lent.{lent_in, lent_in_mut};
 
@@ -103,7 +102,7 @@ pub fn check_column(
         claims.now
         (lent_in_mut store.old)
         (lent_in_mut store.new)
-        (verdict_in result.answer)
+        result.answer
         result.head }
 {
     column_check::check_column(pool, head, claims, store)
@@ -124,6 +123,12 @@ pub fn layer_loss(
         result.head }
 {
     pool::layer_loss(pool, head, i, j, store)
+}
+
+pub fn loss_or_untouched(answer: Result<Loss, Refusal>) -> Loss
+    ensures { result ≡ loss_told answer }
+{
+    pool::loss_or_untouched(answer)
 }
 
 pub fn desk_read(head: Pool, request: Request, ceiling: u32, store: &Store<'_>) -> DeskRow

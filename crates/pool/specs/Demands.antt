@@ -13,7 +13,7 @@
 -- and gives the head, the entries and the bounds back of a store that was filled.
 -- A row that a desk reads has the bounds of the store that was filled, with the distance of its row; what else a store holds plays no part.
 -- Assumes nothing.
-use Rattle.std.specs.Prelude.{Result, ℕ, suc, ◌+◌, ◌-◌, ◌*◌, ◌/◌, ◌%◌, ◌^◌, ◌≤◌, ◌<◌, ◌≡◌, ◌⊎◌, false, cond, List, [], ◌∷◌, ltb, ℤ, pos, negsuc, nat_abs, ◌+ℤ◌, ◌-ℤ◌, ◌≤ℤ◌, length, get_or, drop, Float}
+use Rattle.std.specs.Prelude.{Result, Ok, Err, Option, None, Some, ℕ, suc, ◌+◌, ◌-◌, ◌*◌, ◌/◌, ◌%◌, ◌^◌, ◌≤◌, ◌<◌, ◌≡◌, ◌⊎◌, false, cond, List, [], ◌∷◌, ltb, ℤ, pos, negsuc, nat_abs, ◌+ℤ◌, ◌-ℤ◌, ◌≤ℤ◌, length, get_or, drop, Float}
 use Rattle.std.proofs.Common.{lit<}
 use Rattle.std.specs.Float.{binary64}
 use Rattle.std.specs.Float.Ieee.{to_bits}
@@ -43,8 +43,7 @@ use Rattle.expected_losses.specs.declared.Loss.TheVariants.{Untouched, Faint, Sh
 use Rattle.pool.specs.declared.losses.Answer.{Answer}
 use Rattle.expected_losses.specs.Loss.{losses_in}
 use Rattle.grounds.specs.declared.refusal.Refusal.{Refusal}
-use Rattle.grounds.specs.Refusals.{refusal_number}
-use Rattle.pool.specs.Answers.{loss_in}
+use Rattle.grounds.specs.Refusals.{number_of, refusal_number}
 use Rattle.pool.specs.Calls.{column_refusal, Prints, loss_refusal, Replies}
 use Rattle.steps.specs.Claims.{VerdictAnswer, refused_by, all_pass, fails_at}
 
@@ -143,6 +142,12 @@ pub record ClaimPasses (low high : Kept) (claim : ℕ) : Type 0 where
 unfoldable pub nearest_to : Side → Fraction → ℕ
 nearest_to Low x = (2 * x.num + x.den - 1) / (2 * x.den)
 nearest_to High x = (2 * x.num + x.den) / (2 * x.den)
+
+-- What the answer of a check tells: the number of a refusal, that no row fails, or the first that does.
+abbrev pub verdict_told : Result (Option ℕ) Refusal → VerdictAnswer
+verdict_told (Err refusal) = refused_by (number_of refusal)
+verdict_told (Ok None) = all_pass
+verdict_told (Ok (Some k)) = fails_at k
 
 -- The number of a refusal that a verdict tells, or 0.
 abbrev pub refusal_of : VerdictAnswer → ℕ
@@ -344,6 +349,11 @@ pub record LossesDemands (parts p : ℕ) (r : Chances) (c : Side → ℕ → Kep
   pub shared : refusal_number answer.outcome ≡ 0 → Touch tranches count → SharedDemands p r c tranches count answer
   pub refused : (refusal_number answer.outcome ≡ 0 → ⊥) → (i : ℕ) → i < 8 → loss_at answer i ≡ Untouched
 
+-- The loss that the answer of a layer call stands for: a refusal has none, and stands for an untouched one.
+abbrev pub loss_told : Result Loss Refusal → Loss
+loss_told (Ok loss) = loss
+loss_told (Err refusal) = Untouched
+
 -- What steps 4 to 6 make for n assets, of a row of chances in general: bounds of the chances and of the tails; and no number that is made, those of the entries
 -- before and of the losses of tranches and layers after included, has an exponent below −80,000 or above 100.
 pub record StepsDemands (parts n : ℕ) (r : Chances) (c : Side → ℕ → Kept) (Made : Side → Kept → Type 0) : Type 0 where
@@ -444,18 +454,19 @@ module _ (pool : Pool) where
         (tail (defaults n p ρ)) (tail (defaults n p 0)) shifts'
 
   -- The check of a claimed column, which is lent to be read, so that no call can write to it. Its grounds are those of a column.
-  pub record CheckDemands (head : Pool) (claims : List ℕ) (before after : Slices) (verdict : VerdictAnswer) (head' : Pool) : Type 0 where
-    pub one : Demand1 (column_grounds 100 n p ρ (lengths_of before) (length claims)) (refusal_of verdict) before after
-    pub store : StoreDemands parts_for head before after (refusal_of verdict) head'
-    pub answer : refusal_of verdict ≡ 0 → VerdictDemands n (λ side. kept_defaults side n p ρ) (chance (defaults n p ρ)) claims verdict
+  pub record CheckDemands (head : Pool) (claims : List ℕ) (before after : Slices) (outcome : Result (Option ℕ) Refusal) (head' : Pool) : Type 0 where
+    pub one : Demand1 (column_grounds 100 n p ρ (lengths_of before) (length claims)) (refusal_of (verdict_told outcome)) before after
+    pub store : StoreDemands parts_for head before after (refusal_of (verdict_told outcome)) head'
+    pub answer : refusal_of (verdict_told outcome) ≡ 0
+        → VerdictDemands n (λ side. kept_defaults side n p ρ) (chance (defaults n p ρ)) claims (verdict_told outcome)
 
   -- The layer call. The layer of all defaults loses p.
   pub record LayerDemands (head : Pool) (i j : ℕ) (before after : Slices) (answer : Result Loss Refusal) (head' : Pool) : Type 0 where
     pub one : Demand1 (layer_grounds 100 n p ρ i j (lengths_of before)) (refusal_number answer) before after
     pub store : StoreDemands parts_for head before after (refusal_number answer) head'
-    pub layer : refusal_number answer ≡ 0 → LayerLossDemands (parts_for n) (defaults n p ρ) (λ side. kept_defaults side n p ρ) i j (loss_in answer)
+    pub layer : refusal_number answer ≡ 0 → LayerLossDemands (parts_for n) (defaults n p ρ) (λ side. kept_defaults side n p ρ) i j (loss_told answer)
     pub of_all : refusal_number answer ≡ 0 → Same (layer_loss (defaults n p ρ) 1 n) (record { num = p; den = 10000; positive = lit< tt })
-    pub refused : (refusal_number answer ≡ 0 → ⊥) → (loss_in answer) ≡ Untouched
+    pub refused : (refusal_number answer ≡ 0 → ⊥) → loss_told answer ≡ Untouched
 
   module _ (head : Pool) (tranches : List Tranche) (count : ℕ) where
     -- Of a loss call, by how far its bounds are apart and by its grounds.

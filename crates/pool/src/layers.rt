@@ -1,4 +1,5 @@
 // Works out the expected loss of a layer by number of defaults.
+ghost use Rattle.std.specs.Prelude.{◌≡◌};
 ghost use Rattle.grounds.specs.Refusals.{refusal_number};
 ghost use Rattle.store.specs.Lent.{contents_mut, SameStore};
 ghost use Rattle.expected_losses.specs.Loss.{loss_of};
@@ -32,4 +33,11 @@ pub fn layer_loss(
     let rows = fill_both(pool, store);
     let answer = Ok(layer_losses::layer_loss(pool.assets, rows, i, j));
     Filled { answer, head: pool }
+}
+
+// The loss that the answer of a layer call stands for: a refusal has none, and stands for an untouched one.
+pub fn loss_or_untouched(answer: Result<Loss, Refusal>) -> Loss
+    ensures { result ≡ loss_in answer }
+{
+    answer.unwrap_or(Loss::Untouched)
 }

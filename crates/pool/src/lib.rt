@@ -8,7 +8,7 @@ mod losses;
 mod printing;
 
 pub use expected_losses::{Bounds, Loss};
-pub use layers::layer_loss;
+pub use layers::{layer_loss, loss_or_untouched};
 pub use losses::{Answer, tranche_losses};
 pub use printing::column;
 pub use steps::{TRANCHES, Tranche};

@@ -301,7 +301,7 @@ pub extern "C" fn trial_layer_loss(
     let pool = pool_of(assets, probability, correlation);
     let filled = pool::layer_loss(pool, head_of(head), i, j, &mut store);
     write_head(filled.head, head);
-    let numbers = numbers_of(filled.answer.unwrap_or(Loss::Untouched));
+    let numbers = numbers_of(pool::loss_or_untouched(filled.answer));
     *kind = numbers.0;
     *first = numbers.1;
     *second = numbers.2;

@@ -1,6 +1,6 @@
 -- The contract of the check implies what is demanded of it.
 -- Assumes nothing.
-use Rattle.std.specs.Prelude.{ℕ, ◌+◌, ◌-◌, ◌*◌, ◌/◌, ◌≡◌, refl, List}
+use Rattle.std.specs.Prelude.{Result, Ok, Err, Option, None, Some, ℕ, ◌+◌, ◌-◌, ◌*◌, ◌/◌, ◌≡◌, refl, List}
 use Rattle.std.proofs.Common.{sym, ◌∙◌, arith}
 use Rattle.std.proofs.Math.Decide.{dec_le}
 use Rattle.std.proofs.Math.Nat.{div-eq_of_lt}
@@ -19,12 +19,14 @@ use Rattle.steps.specs.Inputs.{largest_pool, up_to, fine_pool, distance_for}
 use Rattle.steps.specs.Promises.{RowEnclosed, HoldsVerdict}
 use Rattle.steps.proofs.CorrelatedBinomial.Theorems.{within}
 use Rattle.grounds.specs.Grounds.{column_grounds}
+use Rattle.grounds.specs.declared.refusal.Refusal.{Refusal}
 use Rattle.steps.specs.declared.Pool.{Pool}
 use Rattle.store.specs.Stores.{Store, lengths}
 use Rattle.store.proofs.Calls.Laws.{fills_accepted}
 use Rattle.pool.specs.Calls.{column_refusal}
-use Rattle.pool.specs.Demands.{parts_for, one_half, NoFurther, ClaimPasses, nearest_to, refusal_of, VerdictSays, VerdictDemands, CheckDemands}
+use Rattle.pool.specs.Demands.{parts_for, one_half, NoFurther, ClaimPasses, nearest_to, verdict_told, refusal_of, VerdictSays, VerdictDemands, CheckDemands}
 use Rattle.pool.proofs.Demands.Theorems.{slices, store_kept, store_meets}
+use Rattle.column_check.specs.Answers.{verdict_in}
 use Rattle.column_check.specs.Calls.{Checks}
 use Rattle.column_check.proofs.Calls.Distance.{off_within}
 
@@ -62,6 +64,12 @@ nearest_meets Low x =
           let right : (2 * x.den - 1) / (2 * x.den) ≡ 0 = div-eq_of_lt (omega (arith, x.positive)) in
           rw (below, none) (left ∙ sym right)
     ]
+
+-- What an answer tells.
+told_meets : (answer : Result (Option ℕ) Refusal) → verdict_in answer ≡ verdict_told answer
+told_meets (Err refusal) = refl
+told_meets (Ok None) = refl
+told_meets (Ok (Some k)) = refl
 
 -- The number of a refusal.
 refusal_meets : (verdict : VerdictAnswer) → refusal_in verdict ≡ refusal_of verdict
@@ -102,10 +110,12 @@ module _ {r : Chances} {c : Side → ℕ → Kept} {claims : List ℕ} {number :
         apart_meets (apart_weaken (off_within r.assets (enclosed.chances l) (chance_at_most_one r complete l)) (holds.passed_row k l (passes_of passed)));
   }
 
-pub check_meets : {pool head head' : Pool} {claims : List ℕ} {before after : Store} {verdict : VerdictAnswer} → Checks pool head claims before after verdict head'
-    → CheckDemands pool head claims (slices before) (slices after) verdict head'
+pub check_meets : {pool head head' : Pool} {claims : List ℕ} {before after : Store} (answer : Result (Option ℕ) Refusal)
+    → Checks pool head claims before after (verdict_in answer) head' → CheckDemands pool head claims (slices before) (slices after) answer head'
 unfolding defaults column_refusal column_grounds lengths largest_pool up_to fine_pool distance_for parts_for
-check_meets {verdict} checks =
+check_meets answer is =
+    let verdict = verdict_told answer in
+    let checks = rw (told_meets answer) at is in
     let fills = rw (refusal_meets verdict) at checks.fills in
     record {
       one = record { number = fills.refusal_is; untouched = store_kept fills };

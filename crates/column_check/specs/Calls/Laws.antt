@@ -1,7 +1,7 @@
 -- What the check promises, from what the steps give; what an accepted call's inputs give the functions below it; that the contract leaves one outcome, in which rows behind the
 -- last of the claim play no part.
 -- Assumes nothing.
-use Rattle.std.specs.Prelude.{ℕ, suc, ◌+◌, ◌<◌, ◌≡◌, Bool, List, [], ◌∷◌, ◌++◌, ltb, length, take}
+use Rattle.std.specs.Prelude.{Result, Option, ℕ, suc, ◌+◌, ◌<◌, ◌≡◌, Bool, List, [], ◌∷◌, ◌++◌, ltb, length, take}
 use Rattle.std.proofs.Common.{sym, ◌∙◌, le_refl, arith, lt-ltb, le-ltb, length-take}
 use Rattle.std.proofs.Math.Path.{ap, subst}
 use Rattle.std.proofs.Math.Decide.{dec_le}
@@ -22,11 +22,14 @@ use Rattle.steps.proofs.CorrelatedBinomial.Theorems.{within, placed, pool_budget
 use Rattle.chances.specs.Chances.{OnSides}
 use Rattle.claims.specs.Check.{CheckReady}
 use Rattle.claims.specs.Check.Ready.{check_ready}
+use Rattle.grounds.specs.declared.refusal.Refusal.{Refusal}
 use Rattle.grounds.specs.Grounds.{first_ground, fill_grounds, entries_ground, entries_grounds, column_grounds, FillAccepted}
 use Rattle.steps.specs.declared.Pool.{Pool}
 use Rattle.store.specs.Stores.{Store, lengths, store_after}
 use Rattle.store.proofs.Calls.Laws.{fills_untouched, fills_filled, fills_once}
 use Rattle.pool.specs.Calls.{column_refusal}
+use Rattle.column_check.specs.Answers.{verdict_in}
+use Rattle.column_check.specs.Answers.Laws.{one_answer}
 use Rattle.column_check.specs.Calls.{ChecksRow, Checks}
 
 -- ---- a row of chances in general
@@ -100,12 +103,12 @@ refusal_alike pool s claims other alike =
     (fill_grounds largest_pool pool.assets pool.probability pool.correlation (lengths s) ++ (record { number = 8; applies = short } ∷ [])))
     (short_alike pool.assets claims other alike)
 
--- What meets the contract for the same inputs is the same, whatever stands behind row n of the claim.
-pub checks_alone : {pool head head₁ head₂ : Pool} {claims other : List ℕ} {before after after' : Store} {verdict verdict' : VerdictAnswer}
+-- What meets the contract for the same inputs is the same, whatever stands behind row n of the claim: the verdict, the store and the head, and with the verdict the answer.
+pub verdicts_alone : {pool head head₁ head₂ : Pool} {claims other : List ℕ} {before after after' : Store} {verdict verdict' : VerdictAnswer}
     → take (suc pool.assets) claims ≡ take (suc pool.assets) other → Checks pool head claims before after verdict head₁
     → Checks pool head other before after' verdict' head₂ → (verdict ≡ verdict') × (after ≡ after') × (head₁ ≡ head₂)
 unfolding defaults
-checks_alone {pool} {claims} {other} {before} alike one two =
+verdicts_alone {pool} {claims} {other} {before} alike one two =
     let number = refusal_alike pool before claims other alike in
     let same = fills_once number one.fills two.fills in (
       one.checks.verdict_is ∙ verdict_alone pool.assets _ claims other alike _
@@ -113,3 +116,9 @@ checks_alone {pool} {claims} {other} {before} alike one two =
       same.1,
       same.2,
     )
+
+pub checks_alone : {pool head head₁ head₂ : Pool} {claims other : List ℕ} {before after after' : Store} {answer answer' : Result (Option ℕ) Refusal}
+    → take (suc pool.assets) claims ≡ take (suc pool.assets) other → Checks pool head claims before after (verdict_in answer) head₁
+    → Checks pool head other before after' (verdict_in answer') head₂ → (answer ≡ answer') × (after ≡ after') × (head₁ ≡ head₂)
+checks_alone {answer} {answer'} alike one two =
+    let same = verdicts_alone alike one two in (one_answer answer answer' same.0, same.1, same.2)

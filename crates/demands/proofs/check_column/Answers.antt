@@ -6,4 +6,4 @@ use Rattle.demands.proofs.check_column.Goals as goal
 
 pub returns-clause-demands : goal.returns-clause-demands
 unfolding store lent
-returns-clause-demands c = check_meets c.check_column.ensures.checks
+returns-clause-demands c = check_meets _ c.check_column.ensures.checks

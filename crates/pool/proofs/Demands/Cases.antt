@@ -1,6 +1,6 @@
--- What the page says of touching tranches, in figures; that each call which fills a store has what is demanded of all of them, and which head it hands back.
+-- What the page says of touching tranches, and how it reads answers, in figures; that each call which fills a store has what is demanded of all of them, and which head it hands back.
 -- Assumes nothing.
-use Rattle.std.specs.Prelude.{Result, ℕ, suc, ◌+◌, ◌-◌, ◌*◌, ◌/◌, ◌%◌, ◌^◌, ◌≤◌, ◌<◌, ◌≡◌, refl, ◌⊎◌, List, ℤ, pos, negsuc, length, get_or, ◌≤ℤ◌}
+use Rattle.std.specs.Prelude.{Result, Ok, Err, Option, None, Some, ℕ, suc, ◌+◌, ◌-◌, ◌*◌, ◌/◌, ◌%◌, ◌^◌, ◌≤◌, ◌<◌, ◌≡◌, refl, ◌⊎◌, List, ℤ, pos, negsuc, length, get_or, ◌≤ℤ◌}
 use Rattle.std.proofs.Common.{◌∙◌, lt-suc_self, arith}
 use Rattle.std.proofs.Math.Nat.{le_step}
 use Rattle.model.specs.Fraction.{Fraction, Same, AtMost, integer, plus, times, fraction_sum, whole}
@@ -20,13 +20,14 @@ use Rattle.grounds.specs.Grounds.Laws.{store_places_lem}
 use Rattle.steps.specs.declared.Pool.{Pool}
 use Rattle.pool.specs.declared.losses.Answer.{Answer}
 use Rattle.grounds.specs.declared.refusal.Refusal.{Refusal}
+use Rattle.grounds.specs.declared.refusal.Refusal.TheVariants.{Assets, UnkeptEntry}
 use Rattle.expected_losses.specs.declared.Loss.{Loss}
+use Rattle.expected_losses.specs.declared.Loss.TheVariants.{Untouched}
 use Rattle.grounds.specs.Refusals.{refusal_number}
-use Rattle.pool.specs.Answers.{loss_in}
-use Rattle.pool.specs.Demands.{given_at, loss_at, Touch, Carries, CarriesTwo, loss_of_pool, LossesDemands, refusal_of, parts_for, Slices, StoreDemands, FillDemands}
+use Rattle.pool.specs.Demands.{given_at, loss_at, Touch, Carries, CarriesTwo, loss_of_pool, LossesDemands, verdict_told, loss_told, refusal_of, parts_for, Slices, StoreDemands, FillDemands}
 use Rattle.pool.specs.Demands.{ColumnDemands, ShiftDemands, TranchesDemands, LayerDemands, CheckDemands, ScreenColumnDemands, ScreenTranchesDemands}
 use Rattle.pool.specs.Demands.{kept_zero, lengths_of, number_on, from, TableDemands, byte_from, complement, head_of, entry_of, RoomDemands, FileDemands, WrittenDemands, WriteDemands, ReadDemands}
-use Rattle.steps.specs.Claims.{VerdictAnswer}
+use Rattle.steps.specs.Claims.{refused_by, all_pass, fails_at}
 
 -- The conditions, and no others.
 pub touches : (tranches : List Tranche) (count : ℕ) → 0 < count → (given_at tranches 0).lower ≡ 0
@@ -84,20 +85,31 @@ three_lose answer demands none =
       high_carried = λ low high carries. side_same High (from_nothing _ _ _) six_hundred (shared.high_carried low high carries);
     }
 
+-- ---- how answers are read
+
+-- The answer of a check: no row fails; the first that does, by its own number; a refusal, by its number.
+pub verdicts_told : (verdict_told (Ok None) ≡ all_pass) × (verdict_told (Ok (Some 2)) ≡ fails_at 2) × (verdict_told (Err Assets) ≡ refused_by 1)
+    × (verdict_told (Err UnkeptEntry) ≡ refused_by 18) × ((k : ℕ) → verdict_told (Ok (Some k)) ≡ fails_at k)
+verdicts_told = (refl, refl, refl, refl, λ k. refl)
+
+-- That of a layer call: its loss; on a refusal an untouched one.
+pub losses_told : ((loss : Loss) → loss_told (Ok loss) ≡ loss) × ((refusal : Refusal) → loss_told (Err refusal) ≡ Untouched)
+losses_told = (λ loss. refl, λ refusal. refl)
+
 -- ---- what every call that fills a store hands back and leaves
 
 -- Each of the eight, whatever it is given beside the pool, the head and the store: bounds at the library's distance, and on the screen at its own.
 pub each_fills : (pool head head' : Pool) (before after : Slices) (refusal count i j : ℕ) (units units' claims : List ℕ) (shifts shifts' : List ℤ) (tranches : List Tranche)
-    (answer : Answer) (layer : Result Loss Refusal) (verdict : VerdictAnswer)
+    (answer : Answer) (layer : Result Loss Refusal) (check : Result (Option ℕ) Refusal)
     → (FillDemands pool head before after refusal head' → StoreDemands pool parts_for head before after refusal head')
     × (ColumnDemands pool head before after units units' refusal head' → StoreDemands pool parts_for head before after refusal head')
     × (ShiftDemands pool head before after shifts shifts' refusal head' → StoreDemands pool parts_for head before after refusal head')
     × (TranchesDemands pool head tranches count before after answer head' → StoreDemands pool parts_for head before after (refusal_number answer.outcome) head')
     × (LayerDemands pool head i j before after layer head' → StoreDemands pool parts_for head before after (refusal_number layer) head')
-    × (CheckDemands pool head claims before after verdict head' → StoreDemands pool parts_for head before after (refusal_of verdict) head')
+    × (CheckDemands pool head claims before after check head' → StoreDemands pool parts_for head before after (refusal_of (verdict_told check)) head')
     × (ScreenColumnDemands pool head before after units units' refusal head' → StoreDemands pool (λ _. 1000000) head before after refusal head')
     × (ScreenTranchesDemands pool head tranches count before after answer head' → StoreDemands pool (λ _. 1000000) head before after (refusal_number answer.outcome) head')
-each_fills pool head head' before after refusal count i j units units' claims shifts shifts' tranches answer layer verdict = (
+each_fills pool head head' before after refusal count i j units units' claims shifts shifts' tranches answer layer check = (
   λ demands. demands.store,
   λ demands. demands.leaves.store,
   λ demands. demands.leaves.store,

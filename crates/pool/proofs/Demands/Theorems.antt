@@ -1,6 +1,6 @@
 -- The contract of each call implies what is demanded of it.
 -- Assumes nothing.
-use Rattle.std.specs.Prelude.{Result, ℕ, suc, ◌+◌, ◌-◌, ◌*◌, ◌/◌, ◌≤◌, ◌<◌, ◌≡◌, ◌⊎◌, List, length, get_or, drop, ℤ, Float}
+use Rattle.std.specs.Prelude.{Result, Ok, Err, ℕ, suc, ◌+◌, ◌-◌, ◌*◌, ◌/◌, ◌≤◌, ◌<◌, ◌≡◌, ◌⊎◌, List, length, get_or, drop, ℤ, Float}
 use Rattle.std.proofs.Math.Path.{refl, sym, subst}
 use Rattle.std.proofs.Common.{ap, ◌∙◌, inl, inr, arith, lit<, lit≤, length-take, length-take-le, get_or-take}
 use Rattle.std.proofs.Math.Bridge.{le_prop}
@@ -57,7 +57,7 @@ use Rattle.store.specs.Calls.{Fills, fill_refusal, HandsRow, row_refusal}
 use Rattle.store.proofs.Calls.Laws.{fills_kept, fills_head, fills_accepted}
 use Rattle.pool.specs.Calls.{column_refusal, Prints, loss_refusal, RepliesLosses, Replies, layer_refusal, LayerReplies}
 use Rattle.pool.specs.Demands.{kept_zero, parts_for, BoundDemands, StepsDemands, one_half, PrintedDemands, one_and_a_half, units_off, Demand3Column, Slices, significands_on, lent, number_on, lengths_of, from, TableDemands, StoreDemands, edge, BitsDemands, LossDemands, AnswerDemands, TrancheDemands, given_at, loss_at, Touch, Carries, CarriesTwo, loss_of_pool, added_up, SharedDemands, LossesDemands}
-use Rattle.pool.specs.Demands.{FillDemands, RowDemands, EntriesDemands, ColumnDemandsBy, ColumnDemands, TranchesDemandsBy, TranchesDemands, LayerLossDemands, LayerDemands}
+use Rattle.pool.specs.Demands.{FillDemands, RowDemands, EntriesDemands, ColumnDemandsBy, ColumnDemands, TranchesDemandsBy, TranchesDemands, loss_told, LayerLossDemands, LayerDemands}
 
 -- The four slices of a store.
 abbrev pub slices : Store → Slices
@@ -444,15 +444,21 @@ layer_loss_meets {r} {i} {j} loss layer holds = record {
       record { wide = wide; same = layer_tranche r i j A B layer.from layer.order lower upper wide };
 }
 
+-- The loss that an answer stands for.
+told_meets : (answer : Result Loss Refusal) → loss_in answer ≡ loss_told answer
+told_meets (Ok loss) = refl
+told_meets (Err refusal) = refl
+
 pub layer_meets : {pool head head' : Pool} {i j : ℕ} {before after : Store} (answer : Result Loss Refusal)
     → LayerReplies pool head i j before after (refusal_number answer) head' (loss_of (loss_in answer)) → LayerDemands pool head i j (slices before) (slices after) answer head'
 unfolding defaults layer_refusal lengths largest_pool up_to fine_pool distance_for parts_for over whole
-layer_meets {pool} {i} {j} answer replies =
+layer_meets {pool} {i} {j} answer is =
+    let replies = rw (told_meets answer) at is in
     let accepted = layer_accepted largest_pool _ _ _ _ _ _ replies.fills.refusal_is in
     record {
       one = record { number = replies.fills.refusal_is; untouched = store_kept replies.fills };
       store = store_meets replies.fills;
-      layer = λ none. layer_loss_meets (loss_in answer) (accepted none).layer (replies.replies.holds_loss none);
+      layer = λ none. layer_loss_meets (loss_told answer) (accepted none).layer (replies.replies.holds_loss none);
       of_all = λ none.
           let given = (accepted none).fill.pool in
           record { cross = (defaults_layer pool.probability pool.correlation given.range.probability given.range.correlation pool.assets given.not_empty).cross };
