@@ -4,10 +4,8 @@ use Rattle.std.specs.Prelude.{Result, Ok, Err, Option, None, Some, ℕ, ◌≡�
 use Rattle.std.proofs.Math.Path.{refl, sym}
 use Rattle.std.proofs.Common.{◌∙◌, ap}
 use Rattle.grounds.specs.declared.refusal.Refusal.{Refusal}
-use Rattle.grounds.specs.Refusals.{number_of}
 use Rattle.grounds.proofs.Refusals.{refusal_some, one_outcome}
 use Rattle.steps.specs.Claims.{VerdictAnswer, refused_by, all_pass, fails_at, refusal_in}
-use Rattle.claims.specs.Check.{verdict_of}
 use Rattle.column_check.specs.Answers.{verdict_in}
 
 -- The row that a verdict names.
@@ -16,7 +14,7 @@ row_in (refused_by number) = None
 row_in all_pass = None
 row_in (fails_at k) = Some k
 
-row_back : (failing : Option ℕ) → row_in (verdict_of failing) ≡ failing
+row_back : (failing : Option ℕ) → row_in (verdict_in (Ok failing)) ≡ failing
 unfolding row_in
 row_back None = refl
 row_back (Some k) = refl
@@ -26,15 +24,15 @@ refused : Result (Unit {0}) Refusal → Result (Option ℕ) Refusal
 refused (Ok done) = Ok None
 refused (Err refusal) = Err refusal
 
--- No verdict on rows is that of a refusal.
-apart : (failing : Option ℕ) (refusal : Refusal) → verdict_of failing ≡ refused_by (number_of refusal) → ⊥
+-- One that does not refuse has the number 0.
+none_refused : (failing : Option ℕ) → refusal_in (verdict_in (Ok failing)) ≡ 0
 unfolding refusal_in
-apart None refusal same = refusal_some refusal (sym (ap refusal_in same))
-apart (Some k) refusal same = refusal_some refusal (sym (ap refusal_in same))
+none_refused None = refl
+none_refused (Some k) = refl
 
 pub one_answer : (x y : Result (Option ℕ) Refusal) → verdict_in x ≡ verdict_in y → x ≡ y
 unfolding refused refusal_in
 one_answer (Ok x) (Ok y) same = ap Ok (sym (row_back x) ∙ ap row_in same ∙ row_back y)
-one_answer (Ok x) (Err refusal) same = absurd (apart x refusal same)
-one_answer (Err refusal) (Ok y) same = absurd (apart y refusal (sym same))
+one_answer (Ok x) (Err refusal) same = absurd (refusal_some refusal (sym (ap refusal_in same) ∙ none_refused x))
+one_answer (Err refusal) (Ok y) same = absurd (refusal_some refusal (ap refusal_in same ∙ none_refused y))
 one_answer (Err refusal) (Err other) same = ap refused (one_outcome (Err refusal) (Err other) (ap refusal_in same))
