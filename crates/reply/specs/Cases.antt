@@ -20,7 +20,8 @@ use Rattle.text.specs.Cases.{line_of_decimals, line_of_three, table_of_three}
 use Rattle.text.specs.Line.{Accepts}
 use Rattle.text.specs.Table.{digits_by_steps, decimal, field_text, row_of, table_text, refused_text, refused_line}
 use Rattle.text.specs.Table.Laws.{column_text_lem}
-use Rattle.reply.specs.Reply.{AnswersInput, AnswersStart}
+use Rattle.reply.specs.declared.Reply.{Reply}
+use Rattle.reply.specs.Reply.{AnswersInput, AnswersStart, Carries}
 
 accepted : first_ground (pool_grounds report_pool 3 1000 3000) ≡ 0
 unfolding first_ground first_of pool_grounds assets_ground probability_ground correlation_ground report_pool whole
@@ -106,7 +107,7 @@ pub reply_of_number : {text : List ℕ} → AnswersInput (ascii "3\n") text → 
 unfolding refused_line ascii
 reply_of_number answers = answers.no_line (λ n p ρ line. omega (arith, simp length-append at (ap length line.line)))
 
--- The reply to a buffer answers every input that starts as the buffer does.
-pub reply_of_start : {buffer text : List ℕ} {count : ℕ} → AnswersStart buffer count text → (input : List ℕ)
-    → take (length buffer) input ≡ take count buffer → AnswersInput input text
-reply_of_start answers = answers.every
+-- What a reply to a buffer carries answers every input that starts as the buffer does.
+pub reply_of_start : {buffer : List ℕ} {count : ℕ} {reply : Reply} → Carries (AnswersStart buffer count) reply → (input : List ℕ)
+    → take (length buffer) input ≡ take count buffer → AnswersInput input (take reply.length reply.text)
+reply_of_start carries = carries.answers.every

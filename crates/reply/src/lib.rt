@@ -1,7 +1,7 @@
 // The answer of the program `column` to its input, whole.
 #![tactic(auto)]
 
-ghost use Rattle.std.specs.Prelude.{◌≡◌};
+ghost use Rattle.std.specs.Prelude.{◌≡◌, take};
 ghost use Rattle.model.specs.CorrelatedBinomial.{defaults};
 ghost use Rattle.kept.specs.declared.Side.TheVariants.{Low};
 ghost use Rattle.steps.specs.Column.{tenths};
@@ -9,10 +9,11 @@ ghost use Rattle.steps.specs.CorrelatedBinomial.{kept_defaults};
 ghost use Rattle.steps.specs.Inputs.{report_pool, tenths_for};
 ghost use Rattle.steps.specs.Promises.{HoldsColumn};
 ghost use Rattle.grounds.specs.Grounds.{first_ground, pool_grounds};
-ghost use Rattle.reply.specs.Reply.{AnswersPool, AnswersInput, AnswersStart};
+ghost use Rattle.reply.specs.Reply.{AnswersPool, AnswersInput, AnswersStart, Carries};
 
 use arrayvec::ArrayVec;
 use pool::{Pool, StoreMut};
+use std::ops::DerefSlice;
 use steps::REPORT_POOL;
 use text::line::read_line;
 use text::table::{column_text, refused_line, refused_text};
@@ -35,8 +36,38 @@ const EMPTY: Pool = Pool {
     correlation: 0,
 };
 
-// The text that answers an input.
-pub type Reply = ArrayVec<u8, TEXT>;
+// A text while it is put together.
+type Text = ArrayVec<u8, TEXT>;
+
+// A text of the first `length` bytes.
+#[derive(Clone, Copy)]
+pub struct Reply {
+    pub text: [u8; TEXT],
+    pub length: usize,
+}
+
+// A reply acts as the slice of its bytes: all of the array where `length` is above its own.
+impl DerefSlice for Reply {
+    type Elem = u8;
+
+    ghost deref_gives = { λ reply bytes. bytes ≡ take reply.length reply.text };
+
+    fn deref(&self) -> &[u8] {
+        &self.text[..self.length.min(TEXT)]
+    }
+}
+
+// A text, with zeros behind it.
+fn padded(text: &Text) -> Reply
+    ensures { Carries (λ bytes. bytes ≡ text.now.items) result }
+{
+    let mut bytes = [0u8; TEXT];
+    bytes[..text.len()].copy_from_slice(text);
+    Reply {
+        text: bytes,
+        length: text.len(),
+    }
+}
 
 // The column of a pool that no ground refuses.
 fn column_units(pool: Pool) -> [u32; ROWS]
@@ -62,7 +93,7 @@ fn column_units(pool: Pool) -> [u32; ROWS]
 
 // The answer to a line: the table of the pool's column, or the number of the refusal.
 #[tactic(auto, unfolding(steps::specs::Inputs::report_pool, steps::specs::Column::units_of_certainty, model::specs::CorrelatedBinomial::defaults), using(crate::specs::Reply::Laws::refusal_answer, crate::specs::Reply::Laws::table_answer, grounds::specs::Grounds::Laws::pool_accepted))]
-fn column_reply(pool: Pool) -> Reply
+fn column_reply(pool: Pool) -> Text
     ensures { AnswersPool pool.assets pool.probability pool.correlation result.items }
 {
     match grounds::pool_refusal(REPORT_POOL, pool) {
@@ -73,7 +104,7 @@ fn column_reply(pool: Pool) -> Reply
 
 // Any bytes may be given.
 #[tactic(auto, using(crate::specs::Reply::Laws::line_answer, crate::specs::Reply::Laws::no_line_answer))]
-fn reply_to(input: &[u8]) -> Reply
+fn reply_to(input: &[u8]) -> Text
     ensures { AnswersInput input.now result.items }
 {
     match read_line(input) {
@@ -84,12 +115,12 @@ fn reply_to(input: &[u8]) -> Reply
 
 // The first bytes of an input, and how many there are: all of it, or as many as there is room for. The answer is that to the whole
 // input, whatever follows them. The buffer comes as an array, so that no shorter one can be handed over.
-#[tactic(auto, using(crate::specs::Reply::Laws::part_answers))]
+#[tactic(auto, using(crate::specs::Reply::Laws::part_answers, crate::specs::Reply::Laws::carried))]
 pub fn reply_to_start(start: [u8; START], count: usize) -> Reply
-    ensures { AnswersStart start count result.items }
+    ensures { Carries (AnswersStart start count) result }
 {
     if count < START {
-        return reply_to(&start[..count]);
+        return padded(&reply_to(&start[..count]));
     }
-    reply_to(&start)
+    padded(&reply_to(&start))
 }

@@ -431,5 +431,6 @@ pub extern "C" fn trial_read_file(
 #[unsafe(no_mangle)]
 pub extern "C" fn trial_reply(start: &[u8; 64], count: usize, text: &mut [u8; 1_125]) -> usize {
     let reply = reply::reply_to_start(*start, count);
-    copy_of(&reply, text)
+    *text = reply.text;
+    reply.length
 }

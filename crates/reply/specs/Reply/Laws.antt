@@ -22,7 +22,12 @@ use Rattle.text.specs.Line.{Accepts}
 use Rattle.text.specs.Line.Laws.{one_line}
 use Rattle.text.specs.Table.{column_text, refused_text, refused_line}
 use Rattle.text.specs.Table.Laws.{column_text_lem}
-use Rattle.reply.specs.Reply.{AnswersPool, AnswersInput, AnswersStart}
+use Rattle.reply.specs.declared.Reply.{Reply}
+use Rattle.reply.specs.Reply.{AnswersPool, AnswersInput, AnswersStart, Carries}
+
+-- A reply that carries a text answers as the text does.
+pub carried : {Answers : List ℕ → Type 0} {text : List ℕ} {reply : Reply} → Carries (λ bytes. bytes ≡ text) reply → Answers text → Carries Answers reply
+carried carries answers = record { within = carries.within; count = carries.count; answers = rw carries.answers answers; rest = carries.rest }
 
 -- With slices that have room for the largest pool of a report, a column call answers for every pool that a report accepts.
 pub answered : {pool head head' : Pool} {before after : Store} {units units' : List ℕ} {refusal : ℕ}
@@ -32,7 +37,7 @@ pub answered : {pool head head' : Pool} {before after : Store} {units units' : L
 unfolding column_refusal
 answered prints pool store column = prints.fills.refusal_is ∙ column_answered _ _ _ _ _ _ _ (report_accepted pool) pool.range.assets store column
 
--- With such slices it prints the column of every pool that a report accepts.
+-- So it prints the column of every pool that no ground of a report refuses.
 pub column_printed : {pool head head' : Pool} {before after : Store} {units units' : List ℕ} {refusal : ℕ}
     → Prints column_refusal distance_for pool head before after units units' refusal head'
     → first_ground (pool_grounds report_pool pool.assets pool.probability pool.correlation) ≡ 0 → EachAtLeast (triangle (suc report_pool)) (lengths before)
@@ -40,7 +45,8 @@ pub column_printed : {pool head head' : Pool} {before after : Store} {units unit
     → HoldsColumn (tenths (tenths_for pool.assets)) (defaults pool.assets pool.probability pool.correlation)
     (kept_defaults Low pool.assets pool.probability pool.correlation) units'
 column_printed {pool = pool} prints none store column =
-    prints.prints.holds_column (answered prints (pool_accepted report_pool pool.assets pool.probability pool.correlation refl none) store column)
+    prints.prints.holds_column
+    (answered prints (pool_accepted report_pool pool.assets pool.probability pool.correlation refl none) store column)
 
 module _ {n p ρ : ℕ} where
   pub refused_answer : {refusal : ℕ} → refusal ≡ first_ground (pool_grounds report_pool n p ρ) → (refusal ≡ 0 → ⊥) → AnswersPool n p ρ (refused_text refusal)
@@ -83,9 +89,19 @@ start_answers m input text enough answers =
     ]
 
 -- What answers the bytes that a buffer of more than 18 holds answers every input that starts with them.
-pub buffer_answers : {buffer part text : List ℕ} {count : ℕ} → part ≡ take count buffer → 18 < length buffer → AnswersInput part text
+pub held_answers : {buffer part text : List ℕ} {count : ℕ} → part ≡ take count buffer → 18 < length buffer → AnswersInput part text
     → AnswersStart buffer count text
-buffer_answers {buffer} is enough answers = record { every = λ input same. start_answers (length buffer) input _ enough (rw (same, ← is) answers) }
+held_answers {buffer} is enough answers = record { every = λ input same. start_answers (length buffer) input _ enough (rw (same, ← is) answers) }
+
+-- So a reply that carries the answer to them carries that to every such input.
+pub buffer_answers : {buffer part : List ℕ} {count : ℕ} {reply : Reply} → part ≡ take count buffer → 18 < length buffer → Carries (AnswersInput part) reply
+    → Carries (AnswersStart buffer count) reply
+buffer_answers is enough carries = record {
+  within = carries.within;
+  count = carries.count;
+  answers = held_answers is enough carries.answers;
+  rest = carries.rest;
+}
 
 -- An input that ends before the buffer does is what the buffer holds of it.
 pub part_answers : {buffer part text : List ℕ} {count : ℕ} → part ≡ take count buffer → count < length buffer → AnswersInput part text
