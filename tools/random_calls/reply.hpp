@@ -61,7 +61,7 @@ inline size_t put_input(Random &random, Lent<uint8_t> &start) {
     return reply_count(random, length);
 }
 
-// The bytes behind the text are free as far as its array goes.
+// The bytes behind the text are zeros as far as its array goes.
 inline void reply_call(Random &random, Tally &tally) {
     Lent<uint8_t> start(random, 64), text(random, 1125);
     size_t count = put_input(random, start);
@@ -69,7 +69,7 @@ inline void reply_call(Random &random, Tally &tally) {
     uint32_t refusal;
     std::string wanted = reply_text(std::string(start.data(), start.data() + std::min(count, start.length)), pool, refusal);
     size_t length = trial_reply(start.data(), count, text.data());
-    bool same = length == wanted.size() && std::memcmp(text.data(), wanted.data(), length) == 0;
-    std::memcpy(text.wanted_data(), text.data(), text.length);
-    tally.count(pool, refusal, same && start.as_wanted() && text.as_wanted());
+    std::fill_n(text.wanted_data(), text.length, 0);
+    std::memcpy(text.wanted_data(), wanted.data(), wanted.size());
+    tally.count(pool, refusal, length == wanted.size() && start.as_wanted() && text.as_wanted());
 }

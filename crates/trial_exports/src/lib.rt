@@ -431,6 +431,7 @@ pub extern "C" fn trial_read_file(
 #[unsafe(no_mangle)]
 pub extern "C" fn trial_reply(start: &[u8; 64], count: usize, text: &mut [u8; 1_125]) -> usize {
     let reply = reply::reply_to_start(*start, count);
-    *text = reply.text;
+    let bytes = reply.text;
+    *text = bytes;
     reply.length
 }
