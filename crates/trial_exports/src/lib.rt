@@ -72,10 +72,13 @@ fn write_answer(
     firsts: &mut [f64; TRANCHES],
     seconds: &mut [f64; TRANCHES],
 ) -> u32 {
-    let numbers = answer.losses.map(|loss| numbers_of(loss));
-    *kinds = numbers.map(|numbers| numbers.0);
-    *firsts = numbers.map(|numbers| numbers.1);
-    *seconds = numbers.map(|numbers| numbers.2);
+    // By index, which is the place in each array.
+    for (i, loss) in answer.losses.iter().enumerate() {
+        let (kind, first, second) = numbers_of(*loss);
+        kinds[i] = kind;
+        firsts[i] = first;
+        seconds[i] = second;
+    }
     refusal_number(answer.outcome)
 }
 
@@ -342,8 +345,11 @@ pub extern "C" fn trial_check_column(
 
 // Writes the parts of a row's kept numbers.
 fn write_row(row: [Kept; ROWS], significands: &mut [u32; ROWS], exponents: &mut [i32; ROWS]) {
-    *significands = row.map(|entry| entry.significand);
-    *exponents = row.map(|entry| entry.exponent);
+    // In one pass: `map` of an array makes three, over cells that hold its elements.
+    for (i, entry) in row.iter().enumerate() {
+        significands[i] = entry.significand;
+        exponents[i] = entry.exponent;
+    }
 }
 
 // Writes the row on either side, and gives the number of the refusal, or 0.
