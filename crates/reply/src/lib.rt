@@ -1,7 +1,7 @@
 // The answer of the program `column` to its input, whole.
 #![tactic(auto)]
 
-ghost use Rattle.std.specs.Prelude.{◌≡◌, take};
+ghost use Rattle.std.specs.Prelude.{◌≤◌, ◌≡◌, length, take};
 ghost use Rattle.model.specs.CorrelatedBinomial.{defaults};
 ghost use Rattle.kept.specs.declared.Side.TheVariants.{Low};
 ghost use Rattle.steps.specs.Column.{tenths};
@@ -11,7 +11,6 @@ ghost use Rattle.steps.specs.Promises.{HoldsColumn};
 ghost use Rattle.grounds.specs.Grounds.{first_ground, pool_grounds};
 ghost use Rattle.reply.specs.Reply.{AnswersPool, AnswersInput, AnswersStart, Carries};
 
-use arrayvec::ArrayVec;
 use pool::{Pool, StoreMut};
 use std::ops::DerefSlice;
 use steps::REPORT_POOL;
@@ -27,6 +26,9 @@ const STORE: usize = ROWS * (ROWS + 1) / 2;
 // The bytes of the longest text: 1,125, a header of 20 and 65 lines of at most 17.
 pub const TEXT: usize = 20 + ROWS * 17;
 
+// Those of the longest refusal, `refused line`.
+const REFUSAL: usize = 13;
+
 // How many bytes of an input are read. A line has at most 18, so that one byte more decides.
 pub const START: usize = 64;
 
@@ -35,9 +37,6 @@ const EMPTY: Pool = Pool {
     probability: 0,
     correlation: 0,
 };
-
-// A text while it is put together.
-type Text = ArrayVec<u8, TEXT>;
 
 // A text of the first `length` bytes.
 #[derive(Clone, Copy)]
@@ -58,8 +57,9 @@ impl DerefSlice for Reply {
 }
 
 // A text, with zeros behind it.
-fn padded(text: &Text) -> Reply
-    ensures { Carries (λ bytes. bytes ≡ text.now.items) result }
+fn padded(text: &[u8]) -> Reply
+    requires { length text.now ≤ TEXT }
+    ensures { Carries (λ bytes. bytes ≡ text.now) result }
 {
     let mut bytes = [0u8; TEXT];
     bytes[..text.len()].copy_from_slice(text);
@@ -92,35 +92,35 @@ fn column_units(pool: Pool) -> [u32; ROWS]
 }
 
 // The answer to a line: the table of the pool's column, or the number of the refusal.
-#[tactic(auto, unfolding(steps::specs::Inputs::report_pool, steps::specs::Column::units_of_certainty, model::specs::CorrelatedBinomial::defaults), using(crate::specs::Reply::Laws::refusal_answer, crate::specs::Reply::Laws::table_answer, grounds::specs::Grounds::Laws::pool_accepted))]
-fn column_reply(pool: Pool) -> Text
-    ensures { AnswersPool pool.assets pool.probability pool.correlation result.items }
+#[tactic(auto, unfolding(steps::specs::Inputs::report_pool, steps::specs::Column::units_of_certainty, model::specs::CorrelatedBinomial::defaults), using(crate::specs::Reply::Laws::carried, crate::specs::Reply::Laws::refusal_answer, crate::specs::Reply::Laws::table_answer, grounds::specs::Grounds::Laws::pool_accepted))]
+fn column_reply(pool: Pool) -> Reply
+    ensures { Carries (AnswersPool pool.assets pool.probability pool.correlation) result }
 {
     match grounds::pool_refusal(REPORT_POOL, pool) {
-        Ok(()) => column_text(pool.assets, &column_units(pool)),
-        Err(refusal) => refused_text(refusal.into()),
+        Ok(()) => padded(&column_text::<TEXT>(pool.assets, &column_units(pool))),
+        Err(refusal) => padded(&refused_text::<REFUSAL>(refusal.into())),
     }
 }
 
 // Any bytes may be given.
-#[tactic(auto, using(crate::specs::Reply::Laws::line_answer, crate::specs::Reply::Laws::no_line_answer))]
-fn reply_to(input: &[u8]) -> Text
-    ensures { AnswersInput input.now result.items }
+#[tactic(auto, using(crate::specs::Reply::Laws::line_carried, crate::specs::Reply::Laws::carried, crate::specs::Reply::Laws::no_line_answer))]
+fn reply_to(input: &[u8]) -> Reply
+    ensures { Carries (AnswersInput input.now) result }
 {
     match read_line(input) {
         Some(pool) => column_reply(pool),
-        None => refused_line(),
+        None => padded(&refused_line::<REFUSAL>()),
     }
 }
 
 // The first bytes of an input, and how many there are: all of it, or as many as there is room for. The answer is that to the whole
 // input, whatever follows them. The buffer comes as an array, so that no shorter one can be handed over.
-#[tactic(auto, using(crate::specs::Reply::Laws::part_answers, crate::specs::Reply::Laws::carried))]
+#[tactic(auto, using(crate::specs::Reply::Laws::part_carried))]
 pub fn reply_to_start(start: [u8; START], count: usize) -> Reply
     ensures { Carries (AnswersStart start count) result }
 {
     if count < START {
-        return padded(&reply_to(&start[..count]));
+        return reply_to(&start[..count]);
     }
-    padded(&reply_to(&start))
+    reply_to(&start)
 }

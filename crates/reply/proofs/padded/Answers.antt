@@ -23,6 +23,4 @@ over_zeros {text} {front} {zeros} {n} {l} is n_is l_is same zero within =
     }
 
 pub returns : goal.returns
-returns c =
-    over_zeros (c.copy_from_slice.ensures.after ∙ c.deref.ensures.0) c.len.ensures.value c.len-2.ensures.value refl (omega arith)
-    (omega (arith, c.len.ensures.fits))
+returns c = over_zeros c.copy_from_slice.ensures.after refl refl refl (omega arith) c.requires

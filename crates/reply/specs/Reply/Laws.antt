@@ -25,9 +25,13 @@ use Rattle.text.specs.Table.Laws.{column_text_lem}
 use Rattle.reply.specs.declared.Reply.{Reply}
 use Rattle.reply.specs.Reply.{AnswersPool, AnswersInput, AnswersStart, Carries}
 
--- A reply that carries a text answers as the text does.
-pub carried : {Answers : List ℕ → Type 0} {text : List ℕ} {reply : Reply} → Carries (λ bytes. bytes ≡ text) reply → Answers text → Carries Answers reply
-carried carries answers = record { within = carries.within; count = carries.count; answers = rw carries.answers answers; rest = carries.rest }
+module _ {Answers : List ℕ → Type 0} {reply : Reply} where
+  carries_as : {Says : List ℕ → Type 0} → (Says (take reply.length reply.text) → Answers (take reply.length reply.text)) → Carries Says reply → Carries Answers reply
+  carries_as says carries = record { within = carries.within; count = carries.count; answers = says carries.answers; rest = carries.rest }
+
+  -- A reply that carries a text answers as the text does.
+  pub carried : {text : List ℕ} → Carries (λ bytes. bytes ≡ text) reply → Answers text → Carries Answers reply
+  carried carries answers = carries_as (λ is. rw is answers) carries
 
 -- With slices that have room for the largest pool of a report, a column call answers for every pool that a report accepts.
 pub answered : {pool head head' : Pool} {before after : Store} {units units' : List ℕ} {refusal : ℕ}
@@ -70,6 +74,9 @@ module _ {input : List ℕ} where
     line = λ n p ρ other. let same = one_line line other in rw (← same.0, ← same.1, ← same.2) answers;
   }
 
+  pub line_carried : {n p ρ : ℕ} {reply : Reply} → Accepts input n p ρ → Carries (AnswersPool n p ρ) reply → Carries (AnswersInput input) reply
+  line_carried line = carries_as (line_answer line)
+
   pub no_line_answer : {text : List ℕ} → ((n p ρ : ℕ) → Accepts input n p ρ → ⊥) → text ≡ refused_line → AnswersInput input text
   no_line_answer none is = record { no_line = λ _. is; line = λ n p ρ line. absurd (none n p ρ line) }
 
@@ -96,12 +103,7 @@ held_answers {buffer} is enough answers = record { every = λ input same. start_
 -- So a reply that carries the answer to them carries that to every such input.
 pub buffer_answers : {buffer part : List ℕ} {count : ℕ} {reply : Reply} → part ≡ take count buffer → 18 < length buffer → Carries (AnswersInput part) reply
     → Carries (AnswersStart buffer count) reply
-buffer_answers is enough carries = record {
-  within = carries.within;
-  count = carries.count;
-  answers = held_answers is enough carries.answers;
-  rest = carries.rest;
-}
+buffer_answers is enough = carries_as (held_answers is enough)
 
 -- An input that ends before the buffer does is what the buffer holds of it.
 pub part_answers : {buffer part text : List ℕ} {count : ℕ} → part ≡ take count buffer → count < length buffer → AnswersInput part text
@@ -111,3 +113,7 @@ part_answers {buffer} {count = count} is within answers = record {
       let short : length input ≤ length buffer = omega (arith, length-take (length buffer) input, length-take count buffer, ap length same) in
       rw (← take_all (length buffer) input short, same, ← is) answers;
 }
+
+pub part_carried : {buffer part : List ℕ} {count : ℕ} {reply : Reply} → part ≡ take count buffer → count < length buffer → Carries (AnswersInput part) reply
+    → Carries (AnswersStart buffer count) reply
+part_carried is within = carries_as (part_answers is within)
