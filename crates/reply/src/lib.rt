@@ -91,13 +91,22 @@ fn column_units(pool: Pool) -> [u32; ROWS]
     units
 }
 
+// The table of such a column.
+#[tactic(auto, unfolding(steps::specs::Inputs::report_pool, steps::specs::Column::units_of_certainty, model::specs::CorrelatedBinomial::defaults), using(crate::specs::Reply::Laws::carried, crate::specs::Reply::Laws::table_answer, grounds::specs::Grounds::Laws::pool_accepted))]
+fn table_reply(pool: Pool) -> Reply
+    requires { first_ground (pool_grounds report_pool pool.assets pool.probability pool.correlation) ≡ 0 }
+    ensures { Carries (AnswersPool pool.assets pool.probability pool.correlation) result }
+{
+    padded(&column_text::<TEXT>(pool.assets, &column_units(pool)))
+}
+
 // The answer to a line: the table of the pool's column, or the number of the refusal.
-#[tactic(auto, unfolding(steps::specs::Inputs::report_pool, steps::specs::Column::units_of_certainty, model::specs::CorrelatedBinomial::defaults), using(crate::specs::Reply::Laws::carried, crate::specs::Reply::Laws::refusal_answer, crate::specs::Reply::Laws::table_answer, grounds::specs::Grounds::Laws::pool_accepted))]
+#[tactic(auto, unfolding(steps::specs::Inputs::report_pool), using(crate::specs::Reply::Laws::carried, crate::specs::Reply::Laws::refusal_answer))]
 fn column_reply(pool: Pool) -> Reply
     ensures { Carries (AnswersPool pool.assets pool.probability pool.correlation) result }
 {
     match grounds::pool_refusal(REPORT_POOL, pool) {
-        Ok(()) => padded(&column_text::<TEXT>(pool.assets, &column_units(pool))),
+        Ok(()) => table_reply(pool),
         Err(refusal) => padded(&refused_text::<REFUSAL>(refusal.into())),
     }
 }

@@ -26,7 +26,9 @@ use Rattle.reply.specs.declared.Reply.{Reply}
 use Rattle.reply.specs.Reply.{AnswersPool, AnswersInput, AnswersStart, Carries}
 
 module _ {Answers : List ℕ → Type 0} {reply : Reply} where
-  carries_as : {Says : List ℕ → Type 0} → (Says (take reply.length reply.text) → Answers (take reply.length reply.text)) → Carries Says reply → Carries Answers reply
+  -- What is so of the bytes that answer is so of the reply that carries them.
+  carries_as : {Says : List ℕ → Type 0} → (Says (take reply.length reply.text) → Answers (take reply.length reply.text)) → Carries Says reply
+      → Carries Answers reply
   carries_as says carries = record { within = carries.within; count = carries.count; answers = says carries.answers; rest = carries.rest }
 
   -- A reply that carries a text answers as the text does.
