@@ -15,8 +15,6 @@ pub struct Arrays {
 }
 
 impl Arrays {
-    // Inlined, so that the arrays are made where they stand and not copied there.
-    #[inline]
     pub fn filled_with(significand: u32, exponent: i32) -> Arrays {
         Arrays {
             low_significands: [significand; LARGE_PLACES],

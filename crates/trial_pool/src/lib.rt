@@ -5,7 +5,7 @@ pub mod arrays;
 
 use arrays::Arrays;
 use grounds::Lengths;
-use pool::{Answer, Filled, Pool, Refusal, StoreMut, TRANCHES, Tranche};
+use pool::{Answer, Filled, Pool, Refusal, Store, StoreMut, TRANCHES, Tranche};
 use std::io;
 use trial_lines::tranches::{Tranches, one, tranche_of, write_answer, write_layer};
 use trial_lines::{
@@ -203,13 +203,35 @@ fn run_on(
     claims: &[u32],
     lengths: Lengths,
 ) -> io::Result<()> {
-    let mut arrays = Arrays::filled_with(MARK, INTEGER_MARK);
-    pool::fill(other, other, &mut arrays.lent_mut(whole()));
+    // Four arrays, and no `Arrays`, which is made and then copied: this is done for each case.
+    let mut low_significands = [MARK; LARGE_PLACES];
+    let mut high_significands = [MARK; LARGE_PLACES];
+    let mut low_exponents = [INTEGER_MARK; LARGE_PLACES];
+    let mut high_exponents = [INTEGER_MARK; LARGE_PLACES];
+    let mut store = StoreMut {
+        low_significands: &mut low_significands,
+        high_significands: &mut high_significands,
+        low_exponents: &mut low_exponents,
+        high_exponents: &mut high_exponents,
+    };
+    pool::fill(other, other, &mut store);
     write_given(rt, other, call, pool, lengths)?;
     let given = Given::marked(pool);
-    let ended = answer(rt, call, given, claims, &mut arrays.lent_mut(lengths))?;
+    let mut lent = StoreMut {
+        low_significands: first_mut(&mut low_significands, lengths.low_significands),
+        high_significands: first_mut(&mut high_significands, lengths.high_significands),
+        low_exponents: first_mut(&mut low_exponents, lengths.low_exponents),
+        high_exponents: first_mut(&mut high_exponents, lengths.high_exponents),
+    };
+    let ended = answer(rt, call, given, claims, &mut lent)?;
     write_wrong_head(rt, ended.head, given.head_after(ended.answer))?;
-    write_store(rt, call, lengths, &arrays.lent(whole()))
+    let whole_store = Store {
+        low_significands: &low_significands,
+        high_significands: &high_significands,
+        low_exponents: &low_exponents,
+        high_exponents: &high_exponents,
+    };
+    write_store(rt, call, lengths, &whole_store)
 }
 
 // On the first places of marked arrays.
