@@ -39,7 +39,7 @@ const EMPTY: Pool = Pool {
 };
 
 // A text of the first `length` bytes.
-#[derive(Clone, Copy)]
+#[derive(Clone, Copy, Debug, PartialEq, Eq)]
 pub struct Reply {
     pub text: [u8; TEXT],
     pub length: usize,
